@@ -1,7 +1,12 @@
 -- Script numbers, as the Bitcoin Cash specification has them: little-endian, with a sign in the highest bit of the
 -- last byte. Elements stand here as their bytes.
-use Rattle.std.specs.Prelude.{ℕ, zero, suc, ◌+◌, ◌*◌, ◌/◌, ◌%◌, ◌==◌, Bool, true, false, not, ◌&&◌, ◌||◌, nat_le, nat_lt, if◌then◌else◌, List, [], ◌∷◌, length, ℤ, pos, neg_ℤ, unsigned_abs, Option, Some, None}
+use Rattle.std.specs.Prelude.{ℕ, zero, suc, ◌+◌, ◌*◌, ◌/◌, ◌%◌, ◌<◌, ◌==◌, Bool, true, false, not, ◌&&◌, ◌||◌, nat_le, nat_lt, if◌then◌else◌, List, [], ◌∷◌, length, ℤ, pos, neg_ℤ, unsigned_abs, Option, Some, None}
 use Rattle.std.specs.Int.{is_negative}
+use Rattle.std.specs.List.{AllByRecursion}
+
+-- each is a byte
+abbrev pub IsBytes : List ℕ → Type 0
+IsBytes e = AllByRecursion (λ b. b < 256) e
 
 -- the whole number, without its sign: the bytes as powers of 256, the last without its highest bit
 abbrev pub magnitude : List ℕ → ℕ
@@ -32,15 +37,15 @@ abbrev pub number_of : List ℕ → Option ℤ
 number_of e = if nat_le (length e) 8 && is_minimal e then Some (signed (has_sign e) (magnitude e)) else None
 
 -- so many digits to the base 256 at most, the lowest first and the highest not zero
-abbrev pub digits : ℕ → ℕ → List ℕ
+unfoldable pub digits : ℕ → ℕ → List ℕ
 digits zero n = []
-digits (suc places) n = if n == 0 then [] else n % 256 ∷ digits places (n / 256)
+digits (suc places) n = if n == 0 then [] else (n % 256) ∷ digits places (n / 256)
 
 -- the sign goes into the highest bit of the last byte, or into a byte of its own where that bit is taken
 abbrev pub with_sign : Bool → List ℕ → List ℕ
 with_sign negative [] = []
 with_sign negative (b ∷ []) =
-    let sign = if negative then 128 else 0 in if nat_lt b 128 then b + sign ∷ [] else b ∷ sign ∷ []
+    let sign = if negative then 128 else 0 in if nat_lt b 128 then (b + sign) ∷ [] else b ∷ sign ∷ []
 with_sign negative (b ∷ c ∷ bs) = b ∷ with_sign negative (c ∷ bs)
 
 -- the one minimal element of a number between -(2^63 - 1) and 2^63 - 1

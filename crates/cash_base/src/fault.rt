@@ -26,3 +26,14 @@ pub enum Cause {
     /// An operand is read as a number, and is no script number.
     NotANumber,
 }
+
+/// Why the machine refuses.
+#[derive(Clone, Copy, Debug, PartialEq, Eq)]
+pub enum MachineCause {
+    /// A cause that the source's run has too.
+    Shared(Cause),
+    /// An opcode doesn't find its operands.
+    Underflow,
+    /// An executed opcode that has no meaning.
+    BadOpcode,
+}

@@ -3,10 +3,25 @@
 
 pub mod element;
 pub mod fault;
+pub mod memory;
 pub mod number;
+pub mod operation;
+pub mod outside;
 pub mod place;
+pub mod real;
+pub mod sure;
 
 pub use element::Element;
-pub use fault::{Cause, Memory};
+pub use fault::{Cause, MachineCause, Memory};
+pub use memory::{MemorySink, MemoryStore};
 pub use number::{read_number, truth, write_number};
+pub use operation::num_equal;
+pub use outside::{Sink, SinkFailed, Store, StoreStop};
 pub use place::{Slot, Span};
+pub use real::{FileStore, StreamSink};
+pub use sure::{SureSink, SureStore};
+
+#[cfg(test)]
+mod number_tests;
+#[cfg(test)]
+mod outside_tests;

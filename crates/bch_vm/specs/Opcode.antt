@@ -1,0 +1,64 @@
+-- What each opcode does, as the Bitcoin Cash specification has it. In the comments the top stands right.
+use Rattle.std.specs.Prelude.{ℕ, ◌==◌, if◌then◌else◌, List, [], ◌∷◌, ℤ, pos, negsuc, slice_get, Option, Some, None, Result, Ok, Err}
+use Rattle.cash_base.specs.declared.fault.MachineCause.{MachineCause}
+use Rattle.cash_base.specs.declared.fault.MachineCause.TheVariants.{Underflow, BadOpcode}
+use Rattle.cash_base.specs.Failing.{◌>>=◌}
+use Rattle.cash_base.specs.NumEqual.{operand_number, num_equal}
+use Rattle.bch_vm.specs.declared.instr.Instr.{Instr}
+use Rattle.bch_vm.specs.declared.instr.Instr.TheVariants.{Push, Do}
+use Rattle.bch_vm.specs.Stack.{Stack, Action, shared, on_two}
+
+-- NOP: nothing
+abbrev pub unchanged : Action
+unchanged stack = Ok stack
+
+-- NIP: a b to b
+abbrev pub nipped : Action
+nipped (b ∷ a ∷ rest) = Ok (b ∷ rest)
+nipped _ = Err Underflow
+
+abbrev pub element_or_underflow : Option (List ℕ) → Result (List ℕ) MachineCause
+element_or_underflow None = Err Underflow
+element_or_underflow (Some e) = Ok e
+
+-- a copy of the element so many below the top
+abbrev pub copied : ℕ → Action
+copied n stack = do
+  e ← element_or_underflow (slice_get stack n)
+  Ok (e ∷ stack)
+
+abbrev pub copied_at : ℤ → Action
+copied_at (pos n) stack = copied n stack
+copied_at (negsuc n) stack = Err Underflow
+
+-- takes a number that stands above at least one element
+abbrev pub index_taken : Stack → Result (ℤ × Stack) MachineCause
+index_taken (index ∷ below ∷ rest) = do
+  n ← shared (operand_number index)
+  Ok (n, below ∷ rest)
+index_taken _ = Err Underflow
+
+-- PICK: takes n, above at least one element, and copies the element n below the top
+abbrev pub picked : Action
+picked stack = do
+  taken ← index_taken stack
+  copied_at taken.0 taken.1
+
+-- the opcodes that have a meaning
+abbrev pub opcode_table : List (ℕ × Action)
+opcode_table =
+    (0x61, unchanged)
+    ∷ (0x77, nipped)
+    ∷ (0x79, picked)
+    ∷ (0x9c, on_two num_equal)
+    ∷ []
+
+-- the action of the row of this opcode
+abbrev pub action_in : List (ℕ × Action) → ℕ → Action
+action_in [] opcode stack = Err BadOpcode
+action_in (row ∷ rows) opcode stack = if row.0 == opcode then row.1 stack else action_in rows opcode stack
+
+-- what an instruction does
+abbrev pub stack_after : Instr → Action
+stack_after (Push e) stack = Ok (e.items ∷ stack)
+stack_after (Do opcode) stack = action_in opcode_table opcode.0 stack
