@@ -1,0 +1,19 @@
+-- What the store and the sinks of the top call told.
+use Rattle.std.proofs.Common.{◌≡◌, ℕ, ◌≤◌, ◌++◌, List, length, take, Option, option_map, Result, Ok, Err, Some, sym, subst, ap, ◌∙◌}
+use Rattle.std.proofs.Math.Seq.{take-length}
+use Rattle.std.specs.Prelude.{IfSome}
+use Rattle.std.specs.Global.{Global}
+use Rattle.std.specs.declared.string.String.{String}
+use Rattle.cash_base.specs.Outside.{Files, file_named, Grew, GrewByFront, Writes}
+use Rattle.cashc.specs.Form.{max_source_len}
+use Rattle.cashc.specs.TopCall.{named_source, IsSource}
+
+-- all of the text is a front of it
+pub grew_by_front : {E : Type 0} (old new : Option (List ℕ)) (before now : ℕ) (text : List ℕ) (result : Result (Unit {0}) E) → Writes old new before now text result → GrewByFront old new text
+grew_by_front old new before now text (Ok u) w = (length text, w.all ∙ ap (λ t. option_map (λ written. written ++ t) old) (sym (take-length text)))
+grew_by_front old new before now text (Err e) w = w.failed.1
+
+-- what was read is the source that the words name
+pub source_read : (files : Option Files) (words : List (String Global)) (name read source : List ℕ) → named_source words ≡ Some name → IfSome files (λ fs. file_named name fs ≡ Some read) → length read ≤ max_source_len → source ≡ read → IsSource files words source × (length source ≤ max_source_len)
+source_read files words name read source named whole short is =
+    subst (λ (s : List ℕ). IsSource files words s × (length s ≤ max_source_len)) (sym is) ((name, named, whole), short)

@@ -1,0 +1,5 @@
+use Rattle.cashc.proofs.Sources.{one_contract_is}
+use Rattle.cashc.proofs.reading.one_contract.Goals as goal
+
+pub returns : goal.returns
+returns c = one_contract_is

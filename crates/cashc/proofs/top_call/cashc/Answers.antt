@@ -1,0 +1,27 @@
+use Rattle.std.proofs.Common.{◌≡◌, ◌∙◌, Some, Err, inl, inr, refl, sym, ap}
+use Rattle.cashc.specs.Spelling.{code_line}
+use Rattle.cashc.specs.TopCall.{named_source, not_built, IsLongSource}
+use Rattle.cashc.proofs.Told.{source_read}
+use Rattle.cashc.proofs.top_call.cashc.Goals as goal
+
+pub returns-in-Ok-clause-refused : goal.returns-in-Ok-clause-refused
+returns-in-Ok-clause-refused g c = λ e.
+    let reads = c.in-Ok.ensures.reads in
+    let told = c.compile_source.ensures.refused e in
+    let read = source_read _ c.args.words.now _ _ _ (sym c.in-Some.ensures ∙ ap Some (sym c.as_str.ensures.value)) reads.whole reads.within c.as_slice.ensures.value in
+    ((not_built, inr (c.as_slice.result.now, read.0, read.1, told.0, refl), told.1), told.2)
+
+pub returns-in-Ok-clause-stopped : goal.returns-in-Ok-clause-stopped
+returns-in-Ok-clause-stopped g c = λ e.
+    let reads = c.in-Ok.ensures.reads in
+    let read = source_read _ c.args.words.now _ _ _ (sym c.in-Some.ensures ∙ ap Some (sym c.as_str.ensures.value)) reads.whole reads.within c.as_slice.ensures.value in
+    elim (c.compile_source.ensures.stopped e) [
+      | inl t ↦ inl (not_built, inl (inr (c.as_slice.result.now, read.0, read.1, t.0, refl)), t.1, t.2)
+      | inr t ↦ inr (code_line t.0, (c.as_slice.result.now, t.0, read.0, t.1, refl), t.2, t.3)
+    ]
+
+pub returns-in-Err-TooLong-clause-stopped : goal.returns-in-Err-TooLong-clause-stopped
+returns-in-Err-TooLong-clause-stopped g c = λ e.
+    let named : named_source c.args.words.now ≡ Some c.as_str.result.now = sym c.in-Some.ensures ∙ ap Some (sym c.as_str.ensures.value) in
+    let long : IsLongSource _ c.args.words.now = (c.as_str.result.now, named, c.in-Err-TooLong.ensures.reads.too_long (ap Err c.in-Err-TooLong.field-0-is)) in
+    inl (c.as_bytes-in-Err-TooLong.result.now, inl (inl (long, c.as_bytes-in-Err-TooLong.ensures.value)), c.refuse-in-Err-TooLong.ensures.stopped e, refl)

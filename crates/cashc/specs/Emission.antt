@@ -1,0 +1,84 @@
+-- What the emitter promises of the instructions that it adds.
+use Rattle.std.specs.Prelude.{◌≡◌, ℕ, ◌+◌, ◌*◌, ◌^◌, ◌<◌, ◌≤◌, Bool, true, ◌&&◌, nat_lt, List, [], ◌∷◌, ◌++◌, length, slice_index_or, Result, Ok, Err, IsTrue}
+use Rattle.cash_base.specs.declared.place.Slot.{Slot}
+use Rattle.cash_base.specs.declared.place.Span.{Span}
+use Rattle.cash_tree.specs.declared.Ty.{Ty}
+use Rattle.cash_tree.specs.declared.Param.{Param}
+use Rattle.cash_tree.specs.declared.Contract.{Contract}
+use Rattle.cash_tree.specs.declared.Function.{Function}
+use Rattle.cash_tree.specs.declared.Stmt.{Stmt}
+use Rattle.cash_tree.specs.declared.StmtKind.TheVariants.{Require}
+use Rattle.cash_tree.specs.declared.Expr.{Expr}
+use Rattle.cash_tree.specs.declared.ExprKind.TheOpen.{ExprKind-F, Expr-F}
+use Rattle.cash_tree.specs.declared.ExprKind.TheFolds.{fold-Expr}
+use Rattle.source_meaning.specs.declared.outcome.Failure as source
+use Rattle.source_meaning.specs.Meaning.{Env, Value}
+use Rattle.bch_vm.specs.declared.instr.Instr.{Instr}
+use Rattle.bch_vm.specs.declared.machine.Failure.{Failure}
+use Rattle.bch_vm.specs.Stack.{Stack}
+use Rattle.bch_vm.specs.Script.{State, state, run}
+use Rattle.cashc.specs.declared.emission.Emitter.{Emitter}
+
+-- ---- what can be emitted
+
+-- at most so many operands stand at once
+abbrev pub most_operands : ℕ
+most_operands = 1000
+
+-- of so many parameters, and above so many operands
+abbrev pub Test : Type 0
+Test = ℕ → ℕ → Bool
+
+-- literals are script numbers, and names are those of parameters
+abbrev pub kind_test : ExprKind-F Slot Ty Test Test → Test
+kind_test (ExprKind-F.Int digits unit) params depth = nat_lt (digits * unit) (2 ^ 63)
+kind_test (ExprKind-F.Name slot) params depth = nat_lt slot.0 params
+kind_test (ExprKind-F.Binary op left right) params depth =
+    nat_lt depth most_operands && (left params depth && right params (depth + 1))
+
+abbrev pub node_test : Expr-F Slot Ty Test Test → Test
+node_test e = e.kind
+
+abbrev pub is_emittable : Expr Slot Ty → Test
+is_emittable = fold-Expr Slot Ty Test Test kind_test node_test
+
+-- the parameters have the slots from this one on, in order
+abbrev pub HaveSlotsFrom : ℕ → List (Param Slot) → Type 0
+HaveSlotsFrom n [] = Unit {0}
+HaveSlotsFrom n (param ∷ params) = (param.name.0 ≡ n) × HaveSlotsFrom (n + 1) params
+
+-- one function without constructor parameters, whose one statement is a require
+pub record IsEmittable (contract : Contract Slot Ty) : Type 0 where
+  pub function : Function Slot Ty
+  pub statement : Stmt Slot Ty
+  pub value : Expr Slot Ty
+  pub alone : contract.params ≡ []
+  pub only : contract.functions ≡ function ∷ []
+  pub body : function.body ≡ statement ∷ []
+  pub checks : statement.kind ≡ Require value
+  pub few : length function.params ≤ 16
+  pub slots : HaveSlotsFrom 0 function.params
+  pub emittable : is_emittable value (length function.params) 0 ≡ true
+
+-- ---- what emitted code does
+
+-- the slots of the parameters hold these elements
+abbrev pub HoldsArgs : Env → List (List ℕ) → Type 0
+HoldsArgs env args = (slot : Slot) → slot.0 < length args → env slot ≡ slice_index_or args slot.0 []
+
+-- the value is on top of what was there, or the machine failed where there is none
+abbrev pub Leaves : Stack → Result (List ℕ) source.Failure → Result State Failure → Type 0
+Leaves below (Ok e) next = (at : ℕ) × (next ≡ Ok (state (e ∷ below) at))
+Leaves below (Err failure) next = (f : Failure) × (next ≡ Err f)
+
+-- above so many operands, and below them the elements of the parameters, the code leaves the value
+pub record Follows (params depth : ℕ) (code : List Instr) (value : Value) : Type 0 where
+  pub runs : (operands args : List (List ℕ)) (env : Env) (at : ℕ) → length operands ≡ depth → length args ≡ params → HoldsArgs env args
+      → Leaves (operands ++ args) (value env) (run code (state (operands ++ args) at))
+
+-- what an emitter added leaves the value
+pub record Emits (old new : Emitter) (depth : ℕ) (value : Value) : Type 0 where
+  pub rows : List Instr
+  pub grown : new.code.items ≡ old.code.items ++ rows
+  pub same : new.params ≡ old.params
+  pub follows : Follows old.params depth rows value

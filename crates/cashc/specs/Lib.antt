@@ -1,0 +1,10 @@
+pub mod Compile
+pub mod Decides
+pub mod Emission
+pub mod Form
+pub mod Given
+pub mod Seen
+pub mod Spelling
+pub mod Tokens
+pub mod TopCall
+pub mod Words

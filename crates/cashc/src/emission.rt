@@ -1,0 +1,117 @@
+//! From a typed contract to instructions.
+
+ghost use Rattle.std.specs.Prelude.{◌≡◌, ◌+◌, ◌*◌, ◌≤◌, ◌<◌, ◌^◌, [], ◌∷◌, ◌++◌, length, pos, true, IsTrue, OnOk, IfOk, replicate};
+ghost use Rattle.cash_tree.specs.declared.ExprKind.TheOpen.{ExprKind-F};
+ghost use Rattle.source_meaning.specs.Meaning.{value_of, kind_value};
+ghost use Rattle.bch_vm.specs.declared.instr.Instr.TheVariants.{Do};
+ghost use Rattle.cashc.specs.Decides.{DecidesByRun};
+ghost use Rattle.cashc.specs.Emission.{Emits, is_emittable, IsEmittable};
+
+use bch_vm::{Instr, Opcode};
+use cash_base::{Slot, Span, write_number};
+use cash_tree::{BinaryOp, Expr, ExprKind, StmtKind, Ty, TypedContract};
+use std::alloc::{AllocError, Global};
+
+/// The code so far, of a function with so many parameters.
+#[derive(Drop)]
+pub struct Emitter {
+    pub code: Vec<Instr>,
+    pub params: usize,
+}
+
+impl Emitter {
+    fn put(&mut self, instr: Instr) -> Result<(), AllocError>
+        ensures code { OnOk result (self.new.code.items ≡ self.old.code.items ++ instr ∷ []) }
+        ensures params { self.new.params ≡ self.old.params }
+    {
+        self.code.push(instr)?;
+        Ok(())
+    }
+
+    #[tactic(auto, using(crate::proofs::Emits::emits_literal))]
+    fn literal(
+        &mut self,
+        digits: u128,
+        unit: u64,
+        depth: usize,
+        span: Span,
+    ) -> Result<(), AllocError>
+        requires { digits * unit < 2 ^ 63 }
+        ensures { OnOk result (Emits self.old self.new depth (kind_value (ExprKind-F.Int digits unit) span)) }
+    {
+        let n = digits * u128::from(unit);
+        self.put(Instr::Push(write_number(n as i64)))?;
+        Ok(())
+    }
+
+    #[tactic(auto, using(crate::proofs::Emits::emits_name))]
+    fn name(&mut self, slot: Slot, depth: usize, span: Span) -> Result<(), AllocError>
+        requires known { slot.0 < self.old.params }
+        requires room { depth ≤ 1000 }
+        ensures { OnOk result (Emits self.old self.new depth (kind_value (ExprKind-F.Name slot) span)) }
+    {
+        let below = depth + usize::from(slot.0);
+        self.put(Instr::Push(write_number(below as i64)))?;
+        self.put(Instr::Do(Opcode::PICK))?;
+        Ok(())
+    }
+
+    fn operator(&mut self, op: BinaryOp) -> Result<(), AllocError>
+        ensures code { OnOk result (self.new.code.items ≡ self.old.code.items ++ Do (record { 0 = 0x9c }) ∷ []) }
+        ensures params { self.new.params ≡ self.old.params }
+    {
+        match op {
+            BinaryOp::Equal => self.put(Instr::Do(Opcode::NUMEQUAL))?,
+        }
+        Ok(())
+    }
+
+    /// The value of an expression, above so many operands.
+    fn expression(&mut self, e: &Expr<Slot, Ty>, depth: usize) -> Result<(), AllocError>
+        requires emittable { IsTrue (is_emittable e.now self.old.params depth) }
+        requires room { depth ≤ 1000 }
+        ensures { OnOk result (Emits self.old self.new depth (value_of e.now)) }
+    {
+        let span = e.span;
+        match &e.kind {
+            ExprKind::Int { digits, unit } => self.literal(*digits, *unit, depth, span),
+            ExprKind::Name(slot) => self.name(*slot, depth, span),
+            ExprKind::Binary(op, left, right) => {
+                self.expression(left.get(), depth)?;
+                self.expression(right.get(), depth + 1)?;
+                self.operator(*op)?;
+                Ok(())
+            }
+        }
+    }
+
+    /// Drops the parameters below the one value on top.
+    fn drop_params(&mut self) -> Result<(), AllocError>
+        ensures { OnOk result (self.new.code.items ≡ self.old.code.items ++ replicate self.old.params (Do (record { 0 = 0x77 }))) }
+    {
+        for _ in 0..self.params {
+            self.put(Instr::Do(Opcode::NIP))?;
+        }
+        Ok(())
+    }
+}
+
+/// The code of a contract with one function: its parameters stand on the stack, the first on top.
+///
+/// Each operand is pushed or copied, the comparison is left as the only element.
+#[tactic(auto, using(crate::proofs::Decided::decided))]
+pub fn emit(alloc: Global, contract: &TypedContract) -> Result<Vec<Instr>, AllocError>
+    requires { IsEmittable contract.now }
+    ensures { IfOk result (λ code. DecidesByRun contract.now code.items) }
+{
+    let function = &contract.functions.as_slice()[0];
+    let StmtKind::Require { value } = &function.body.as_slice()[0].kind;
+    let mut emitter = Emitter {
+        code: Vec::new(alloc),
+        params: function.params.len(),
+    };
+    emitter.expression(value, 0)?;
+    emitter.drop_params()?;
+    let Emitter { code, params: _ } = emitter;
+    Ok(code)
+}
