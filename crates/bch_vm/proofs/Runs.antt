@@ -1,5 +1,5 @@
 -- Runs compose.
-use Rattle.std.proofs.Common.{◌≡◌, ℕ, List, [], ◌∷◌, ◌++◌, Result, Ok, Err, refl}
+use Rattle.std.proofs.Common.{◌≡◌, List, [], ◌∷◌, ◌++◌, Result, Ok, Err, refl}
 use Rattle.cash_base.specs.Failing.{◌>>=◌}
 use Rattle.bch_vm.specs.declared.instr.Instr.{Instr}
 use Rattle.bch_vm.specs.Script.{run, state_after, RunsInTurn}

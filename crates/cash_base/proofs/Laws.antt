@@ -1,8 +1,8 @@
 -- Numbers and minimal elements stand for one another.
-use Rattle.std.proofs.Common.{◌≡◌, ◌≢◌, ℕ, zero, suc, ◌+◌, ◌-◌, ◌*◌, ◌/◌, ◌%◌, ◌^◌, ◌<◌, ◌≤◌, Bool, true, false, not, ◌&&◌, ◌||◌, leb, eqb, ltb, cond, List, [], ◌∷◌, length, get_or, refl, sym, ap, ◌∙◌, arith, Option, Some, None, ℤ, pos, negsuc, neg_ℤ, lit<, ◌⊎◌, inl, inr, subst}
+use Rattle.std.proofs.Common.{◌≡◌, ◌≢◌, ℕ, zero, suc, ◌+◌, ◌*◌, ◌/◌, ◌%◌, ◌^◌, ◌<◌, ◌≤◌, Bool, true, false, ◌&&◌, ◌||◌, leb, cond, List, [], ◌∷◌, length, refl, sym, ap, ◌∙◌, arith, Some, None, ℤ, pos, negsuc, lit<, ◌⊎◌, inl, inr, subst}
 use Rattle.std.specs.Prelude.{unsigned_abs}
 use Rattle.std.specs.Int.{is_negative}
-use Rattle.std.proofs.lemmas.Bool.{cond-true, cond-false, and_from, and_parts, le-leb, lt-ltb, le-ltb, lt-leb, ne_eqb, eq-eqb, cases_lt, cases_eq, leb-true}
+use Rattle.std.proofs.lemmas.Bool.{and_parts, le-ltb, cases_lt, cases_eq, leb-true}
 use Rattle.std.proofs.lemmas.Bool.Decides.{nat_tests}
 use Rattle.cash_base.specs.Number.{magnitude, has_sign, is_minimal, number_of, signed, digits, with_sign, minimal_bytes, IsBytes}
 use Rattle.cash_base.proofs.Writing.{digits_step, digits_zero, sign_in, sign_behind}

@@ -1,8 +1,6 @@
 -- The code of a whole function decides its contract.
-use Rattle.std.proofs.Common.{◌≡◌, ◌≢◌, ℕ, zero, suc, ◌+◌, ◌-◌, ◌<◌, ◌≤◌, Bool, true, false, cond, eqb, List, [], ◌∷◌, ◌++◌, length, get_or, replicate, Result, Ok, Err, refl, sym, ap, ◌∙◌, subst, arith, append_assoc}
-use Rattle.std.specs.Prelude.{slice_index_or}
-use Rattle.std.specs.List.{AllByRecursion}
-use Rattle.std.proofs.lemmas.Bool.{cond-true, cond-false, eq-eqb, ne_eqb, cases_order}
+use Rattle.std.proofs.Common.{◌≡◌, ℕ, zero, suc, ◌+◌, ◌<◌, Bool, true, false, cond, eqb, List, [], ◌∷◌, ◌++◌, length, get_or, replicate, Result, Ok, Err, refl, sym, ap, ◌∙◌, subst, arith}
+use Rattle.std.proofs.lemmas.Bool.{cond-true, cond-false, eq-eqb, ne_eqb}
 use Rattle.cash_base.specs.declared.fault.Cause.TheVariants.{CheckFailed}
 use Rattle.cash_base.specs.declared.place.Slot.{Slot}
 use Rattle.cash_base.specs.declared.place.Span.{Span}
@@ -11,18 +9,15 @@ use Rattle.cash_base.specs.Number.{truth_of}
 use Rattle.cash_tree.specs.declared.Ty.{Ty}
 use Rattle.cash_tree.specs.declared.Param.{Param}
 use Rattle.cash_tree.specs.declared.Contract.{Contract}
-use Rattle.cash_tree.specs.declared.Function.{Function}
-use Rattle.cash_tree.specs.declared.Stmt.{Stmt}
 use Rattle.source_meaning.specs.declared.outcome.Failure as source
 use Rattle.source_meaning.specs.Meaning.{Env, value_of, checked, fails, with_values, with_value, no_values, ended, env_after_kind, env_after_all, source_outcome}
 use Rattle.bch_vm.specs.declared.instr.Instr.{Instr}
 use Rattle.bch_vm.specs.declared.machine.Failure.{Failure}
 use Rattle.bch_vm.specs.Stack.{Stack}
-use Rattle.bch_vm.specs.Script.{State, state, run, run_outcome, stack_at_end}
+use Rattle.bch_vm.specs.Script.{state, run, run_outcome, stack_at_end}
 use Rattle.bch_vm.proofs.Runs.{run_append}
-use Rattle.cashc.specs.Decides.{EndsIn, FailsOrEndsFalse, Agrees, IsElement, DecidesByRun}
-use Rattle.cashc.specs.declared.emission.Emitter.{Emitter}
-use Rattle.cashc.specs.Emission.{HaveSlotsFrom, HoldsArgs, IsEmittable, Leaves, Follows, Emits}
+use Rattle.cashc.specs.Decides.{FailsOrEndsFalse, Agrees, DecidesByRun}
+use Rattle.cashc.specs.Emission.{HaveSlotsFrom, HoldsArgs, IsEmittable, Leaves, Follows}
 use Rattle.cashc.proofs.Emits.{opcode}
 
 -- ---- the slots of the parameters hold the arguments

@@ -1,6 +1,6 @@
 -- Emitted code leaves the values of expressions, piece by piece.
-use Rattle.std.proofs.Common.{◌≡◌, ℕ, zero, suc, ◌+◌, ◌-◌, ◌*◌, ◌^◌, ◌<◌, ◌≤◌, Bool, true, false, cond, eqb, List, [], ◌∷◌, ◌++◌, length, get_or, replicate, Result, Ok, Err, Option, Some, None, ℤ, pos, refl, sym, ap, ◌∙◌, subst, arith, append_assoc}
-use Rattle.std.specs.Prelude.{slice_get, slice_index_or, unsigned_abs}
+use Rattle.std.proofs.Common.{◌≡◌, ℕ, ◌+◌, ◌*◌, ◌^◌, ◌<◌, List, [], ◌∷◌, ◌++◌, length, get_or, Result, Ok, Err, Some, ℤ, pos, refl, sym, ap, ◌∙◌, subst, arith, append_assoc}
+use Rattle.std.specs.Prelude.{slice_get, slice_index_or}
 use Rattle.std.proofs.lemmas.Option.{slice_get_within, slice_get-get_or}
 use Rattle.std.proofs.lemmas.List.{get_or-append-add, length-append}
 use Rattle.arrayvec.specs.ArrayVec.{ArrayVec}
@@ -14,18 +14,17 @@ use Rattle.cash_base.proofs.Laws.{number_of-minimal_bytes}
 use Rattle.cash_tree.specs.declared.ExprKind.TheOpen.{ExprKind-F}
 use Rattle.cash_tree.specs.declared.BinaryOp.{BinaryOp}
 use Rattle.cash_tree.specs.declared.BinaryOp.TheVariants.{Equal}
-use Rattle.source_meaning.specs.Meaning.{Env, Value, kind_value, at_span, binary_value}
+use Rattle.source_meaning.specs.Meaning.{Env, Value, kind_value, at_span}
 use Rattle.source_meaning.specs.declared.outcome.Failure as source
 use Rattle.bch_vm.specs.declared.instr.Instr.{Instr}
 use Rattle.bch_vm.specs.declared.instr.Instr.TheVariants.{Push, Do}
-use Rattle.bch_vm.specs.declared.instr.Opcode.{Opcode}
 use Rattle.bch_vm.specs.declared.machine.Failure.{Failure}
 use Rattle.bch_vm.specs.Stack.{Stack, shared}
 use Rattle.bch_vm.specs.Opcode.{copied_at, element_or_underflow, picked}
 use Rattle.bch_vm.specs.Script.{State, state, run, passed}
 use Rattle.bch_vm.proofs.Runs.{run_append}
 use Rattle.cashc.specs.declared.emission.Emitter.{Emitter}
-use Rattle.cashc.specs.Emission.{HoldsArgs, Leaves, Follows, Emits}
+use Rattle.cashc.specs.Emission.{Leaves, Follows, Emits}
 
 abbrev pub opcode : ℕ → Instr
 opcode n = Do (record { 0 = n })

@@ -1,8 +1,8 @@
 pub mod Accepted
 pub mod Decided
 pub mod Emits
-pub mod Names
-pub mod Shape
-pub mod Sources
-pub mod Spelled
+pub mod FormAnswer
+pub mod FormShape
+pub mod FurtherParams
+pub mod TokenSpelling
 pub mod Told

@@ -1,10 +1,10 @@
 -- What the store and the sinks of the top call told.
-use Rattle.std.proofs.Common.{◌≡◌, ℕ, ◌≤◌, ◌++◌, List, length, take, Option, option_map, Result, Ok, Err, Some, sym, subst, ap, ◌∙◌}
+use Rattle.std.proofs.Common.{◌≡◌, ℕ, ◌≤◌, ◌++◌, List, length, Option, option_map, Result, Ok, Err, Some, sym, subst, ap, ◌∙◌}
 use Rattle.std.proofs.Math.Seq.{take-length}
 use Rattle.std.specs.Prelude.{IfSome}
 use Rattle.std.specs.Global.{Global}
 use Rattle.std.specs.declared.string.String.{String}
-use Rattle.cash_base.specs.Outside.{Files, file_named, Grew, GrewByFront, Writes}
+use Rattle.cash_base.specs.Outside.{Files, file_named, GrewByFront, Writes}
 use Rattle.cashc.specs.Form.{max_source_len}
 use Rattle.cashc.specs.TopCall.{named_source, IsSource}
 

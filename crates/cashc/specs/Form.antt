@@ -85,7 +85,7 @@ param_at tokens = do
   type ← token_at (codes "int") tokens
   name_at type.1
 
--- one more parameter and the further ones, where there is a comma
+-- behind a comma one more parameter, and the further ones; else none
 abbrev pub behind_comma : (List Token → Option (List Token × List Token)) → List Token → Option (Span × List Token) → Option (List Token × List Token)
 behind_comma further tokens None = Some ([], tokens)
 behind_comma further tokens (Some comma) = do
@@ -107,7 +107,7 @@ abbrev pub all_differ : List Token → Bool
 all_differ [] = true
 all_differ (name ∷ names) = is_none (place_of name.text names) && all_differ names
 
--- names in front of those that are read
+-- what was read, with names in front
 abbrev pub with_front : List Token → Option (List Token × List Token) → Option (List Token × List Token)
 with_front names read = do
   others ← read

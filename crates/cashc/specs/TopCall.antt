@@ -3,7 +3,7 @@ use Rattle.std.specs.Prelude.{◌≡◌, ℕ, ◌<◌, ◌≤◌, ◌⊎◌, Lis
 use Rattle.std.specs.Str.{bytes_eq}
 use Rattle.std.specs.Global.{Global}
 use Rattle.std.specs.declared.string.String.{String}
-use Rattle.cash_base.specs.Outside.{Files, file_named, Rose, Grew, GrewByFront}
+use Rattle.cash_base.specs.Outside.{Files, file_named, Rose, GrewByFront}
 use Rattle.bch_vm.specs.declared.instr.Instr.{Instr}
 use Rattle.cashc.specs.Form.{max_source_len}
 use Rattle.cashc.specs.Compile.{IsCompiled, IsOfNoForm}

@@ -5,6 +5,8 @@ pub mod compile;
 pub mod emission;
 pub mod reading;
 pub mod script_codec;
+#[cfg(test)]
+mod tests;
 pub mod top_call;
 
 use cash_base::{FileStore, StreamSink};

@@ -54,7 +54,8 @@ pub fn read_contract(alloc: Global, source: &[u8]) -> Result<Option<TypedContrac
 
 /// A source is of the form as at most one contract.
 pub fn one_contract()
-    ensures { (source : List ℕ) (a b : Contract Slot Ty) → IsOfForm source a → IsOfForm source b → a ≡ b }
+    ensures { (source : List ℕ) (a b : Contract Slot Ty) →
+        IsOfForm source a → IsOfForm source b → a ≡ b }
 {}
 
 #[cfg(test)]

@@ -72,7 +72,8 @@ fn further<'t, 'a>(
     mut names: Vec<Token<'a>>,
     tokens: &'t [Token<'a>],
 ) -> Result<(Vec<Token<'a>>, &'t [Token<'a>]), Stop>
-    ensures gives { Gives (λ x. (seen x.0.items, seen x.1.now)) result (with_front (seen names.entry.items) (further_params room (seen tokens.now))) }
+    ensures gives { Gives (λ x. (seen x.0.items, seen x.1.now)) result
+        (with_front (seen names.entry.items) (further_params room (seen tokens.now))) }
     ensures few { IfOk result (λ x. length x.0.items ≤ length names.entry.items + room) }
 {
     if room == 0 {

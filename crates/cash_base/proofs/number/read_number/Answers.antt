@@ -1,6 +1,6 @@
-use Rattle.std.proofs.Common.{◌≡◌, ◌<◌, ◌^◌, ℤ, pos, neg_ℤ, ◌-ℤ◌, Some, ap, sym, ◌∙◌, arith, length, true, false, to_z, of_z, w64}
+use Rattle.std.proofs.Common.{◌≡◌, pos, neg_ℤ, ◌-ℤ◌, Some, ap, sym, ◌∙◌, arith, length, true, false, to_z, of_z, w64}
 use Rattle.std.proofs.lemmas.Int.{ints}
-use Rattle.cash_base.specs.Number.{signed, has_sign, magnitude}
+use Rattle.cash_base.specs.Number.{signed, has_sign}
 use Rattle.cash_base.proofs.Reading.{number_read, below_limit}
 use Rattle.cash_base.proofs.number.read_number.Goals as goal
 

@@ -1,8 +1,8 @@
 use Rattle.std.proofs.Common.{rules}
 use Rattle.cashc.specs.Tokens.{Spells}
 use Rattle.cashc.specs.Seen.{seen}
-use Rattle.cashc.proofs.Shape.{contract_is}
-use Rattle.cashc.proofs.Sources.{no_contract}
+use Rattle.cashc.proofs.FormShape.{contract_is}
+use Rattle.cashc.proofs.FormAnswer.{no_contract}
 use Rattle.cashc.proofs.reading.read_contract.Goals as goal
 
 pub returns-in-Ok-clause-built : goal.returns-in-Ok-clause-built

@@ -4,7 +4,7 @@ use Rattle.cashc.specs.Tokens.{Token}
 use Rattle.cashc.specs.Seen.{seen, seen_token}
 use Rattle.cashc.specs.Given.{Gives}
 use Rattle.cashc.specs.Form.{further_params, with_front}
-use Rattle.cashc.proofs.Names.{one_more}
+use Rattle.cashc.proofs.FurtherParams.{one_more}
 use Rattle.cashc.proofs.reading.parser.+further.Goals as goal
 
 pub returns-clause-gives : goal.returns-clause-gives

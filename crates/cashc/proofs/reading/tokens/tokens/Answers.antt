@@ -2,7 +2,7 @@ use Rattle.std.proofs.Common.{◌≡◌, ◌<◌, ℕ, List, [], length, take, d
 use Rattle.std.proofs.lemmas.List.Sums.{prefix_len-le-length}
 use Rattle.cashc.specs.Tokens.{is_blank, token_len, behind_blanks}
 use Rattle.cashc.specs.Seen.{seen}
-use Rattle.cashc.proofs.Spelled.{Cuts, token_len-le, one_found, goes_on, none_spelled, empty, not_empty}
+use Rattle.cashc.proofs.TokenSpelling.{Cuts, token_len-le, one_found, goes_on, none_spelled, empty, not_empty}
 use Rattle.cashc.proofs.reading.tokens.tokens.Goals as goal
 use Rattle.cashc.proofs.reading.tokens.tokens.Goals.{After-split_at}
 

@@ -5,7 +5,7 @@ use Rattle.cash_tree.specs.declared.Ty.{Ty}
 use Rattle.cash_tree.specs.declared.Contract.{Contract}
 use Rattle.cashc.specs.Tokens.{Token, Spells}
 use Rattle.cashc.specs.Form.{contract_of, IsOfForm}
-use Rattle.cashc.proofs.Spelled.{one_spelling}
+use Rattle.cashc.proofs.TokenSpelling.{one_spelling}
 
 pub too_long : (source : List ℕ) → 65536 < length source → (c : Contract Slot Ty) → IsOfForm source c → ⊥
 too_long source long c h = let short = h.0 in omega arith
