@@ -7,3 +7,6 @@ pub mod machine;
 pub use cash_base::MachineCause;
 pub use instr::{Instr, Opcode};
 pub use machine::{Failure, Machine};
+
+#[cfg(test)]
+mod tests;

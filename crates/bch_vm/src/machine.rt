@@ -8,6 +8,7 @@ ghost use Rattle.bch_vm.specs.Opcode.{stack_after, action_in, opcode_table, nipp
 ghost use Rattle.bch_vm.specs.Script.{RunsInTurn};
 
 use crate::instr::{Instr, Opcode};
+use cash_base::element::copy_of;
 use cash_base::{Cause, Element, MachineCause, Memory, read_number};
 use std::alloc::Global;
 use std::marker::Model;
@@ -221,16 +222,6 @@ impl Machine {
             Err(cause) => Err(MachineCause::Shared(cause)),
         }
     }
-}
-
-/// The same element anew. It takes no memory.
-fn copy_of(bytes: &[u8]) -> Element
-    requires { length bytes.now ≤ 520 }
-    ensures { result.items ≡ bytes.now }
-{
-    let mut element = Element::new();
-    let _ = element.try_extend_from_slice(bytes);
-    element
 }
 
 /// Instructions that stand one behind the other run as the first and then the second.

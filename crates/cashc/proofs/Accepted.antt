@@ -12,8 +12,9 @@ use Rattle.cash_tree.specs.declared.Stmt.{Stmt}
 use Rattle.cash_tree.specs.declared.BinaryOp.TheVariants.{Equal}
 use Rattle.cash_tree.specs.declared.ExprKind.TheFolds.{the_lemmas}
 use Rattle.cash_tree.specs.declared.BinaryOp.{BinaryOp}
+use Rattle.source_meaning.specs.Runnable.{HaveSlotsFrom}
 use Rattle.cashc.specs.Form.{slot, AreInSlots, IsOperandKind, IsComparison, IsEquality}
-use Rattle.cashc.specs.Emission.{HaveSlotsFrom, kind_test, is_emittable, IsEmittable}
+use Rattle.cashc.specs.Emission.{kind_test, is_emittable, IsEmittable}
 
 slots_from : (n : ℕ) (params : List (Param Slot)) → AreInSlots n params → HaveSlotsFrom n params
 slots_from n [] h = tt

@@ -17,31 +17,15 @@ use Rattle.bch_vm.specs.Stack.{Stack}
 use Rattle.bch_vm.specs.Script.{state, run, run_outcome, stack_at_end}
 use Rattle.bch_vm.proofs.Runs.{run_append}
 use Rattle.cashc.specs.Decides.{FailsOrEndsFalse, Agrees, DecidesByRun}
-use Rattle.cashc.specs.Emission.{HaveSlotsFrom, HoldsArgs, IsEmittable, Leaves, Follows}
+use Rattle.source_meaning.specs.Runnable.{HaveSlotsFrom, env_of}
+use Rattle.source_meaning.proofs.Slots.{with_values-env_of}
+use Rattle.cashc.specs.Emission.{HoldsArgs, IsEmittable, Leaves, Follows}
 use Rattle.cashc.proofs.Emits.{opcode}
 
--- ---- the slots of the parameters hold the arguments
-
--- a slot before those of the parameters keeps what it holds
-kept : (n : ℕ) (params : List (Param Slot)) (args : List (List ℕ)) (env : Env) (slot : Slot) → HaveSlotsFrom n params → slot.0 < n → with_values params args env slot ≡ env slot
-kept n [] args env slot slots below = refl
-kept n (param ∷ params) [] env slot slots below = refl
-kept n (param ∷ params) (arg ∷ args) env slot slots below =
-    let other : slot.0 ≡ param.name.0 → ⊥ = λ e. omega (arith, e, slots.0, below) in
-    kept (n + 1) params args (with_value param.name arg env) slot slots.1 (omega (arith, below)) ∙ cond-false (eqb slot.0 param.name.0) arg (env slot) (ne_eqb slot.0 param.name.0 other)
-
-holds_from : (n : ℕ) (params : List (Param Slot)) (args : List (List ℕ)) (env : Env) (slot : Slot) (k : ℕ) → HaveSlotsFrom n params → length args ≡ length params → slot.0 ≡ n + k → k < length args → with_values params args env slot ≡ get_or args k []
-holds_from n [] [] env slot k slots count is within = absurd (omega (arith, within))
-holds_from n [] (arg ∷ args) env slot k slots count is within = absurd (omega (arith, count))
-holds_from n (param ∷ params) [] env slot k slots count is within = absurd (omega (arith, count))
-holds_from n (param ∷ params) (arg ∷ args) env slot zero slots count is within =
-    let same : slot.0 ≡ param.name.0 = omega (arith, is, slots.0) in
-    kept (n + 1) params args (with_value param.name arg env) slot slots.1 (omega (arith, is)) ∙ cond-true (eqb slot.0 param.name.0) arg (env slot) (eq-eqb slot.0 param.name.0 same)
-holds_from n (param ∷ params) (arg ∷ args) env slot (suc k) slots count is within =
-    holds_from (n + 1) params args (with_value param.name arg env) slot k slots.1 (omega (arith, count)) (omega (arith, is)) (omega (arith, within))
-
-holds_args : (params : List (Param Slot)) (args : List (List ℕ)) (env : Env) → HaveSlotsFrom 0 params → length args ≡ length params → HoldsArgs (with_values params args env) args
-holds_args params args env slots count slot within = holds_from 0 params args env slot slot.0 slots count (omega arith) within
+-- the slots of the parameters hold the arguments
+holds_args : (params : List (Param Slot)) (args : List (List ℕ)) → HaveSlotsFrom 0 params → length args ≡ length params → HoldsArgs (with_values params args no_values) args
+unfolding env_of
+holds_args params args slots count slot within = ap (λ env. env slot) (with_values-env_of [] params [] args tt refl slots count)
 
 -- ---- the parameters are dropped from below the value
 
@@ -91,7 +75,7 @@ decided contract h rows follows = record {
   alone = h.alone;
   agrees = λ args count elements.
       let env = with_values h.function.params args no_values in
-      let left = follows.runs [] args env 0 refl count (holds_args h.function.params args no_values h.slots count) in
+      let left = follows.runs [] args env 0 refl count (holds_args h.function.params args h.slots count) in
       subst (λ o. Agrees o (run_outcome (rows ++ replicate (length h.function.params) (opcode 0x77)) args)) (sym (outcome_is contract h args))
       (both_agree (value_of h.value env) h.statement.span env _ (ends_as (length h.function.params) args rows (value_of h.value env) (sym count) left));
 }

@@ -12,6 +12,7 @@ use Rattle.cash_tree.specs.declared.ExprKind.TheOpen.{ExprKind-F, Expr-F}
 use Rattle.cash_tree.specs.declared.ExprKind.TheFolds.{fold-Expr}
 use Rattle.source_meaning.specs.declared.outcome.Failure as source
 use Rattle.source_meaning.specs.Meaning.{Env, Value}
+use Rattle.source_meaning.specs.Runnable.{HaveSlotsFrom}
 use Rattle.bch_vm.specs.declared.instr.Instr.{Instr}
 use Rattle.bch_vm.specs.declared.machine.Failure.{Failure}
 use Rattle.bch_vm.specs.Stack.{Stack}
@@ -40,11 +41,6 @@ node_test e = e.kind
 
 abbrev pub is_emittable : Expr Slot Ty → Test
 is_emittable = fold-Expr Slot Ty Test Test kind_test node_test
-
--- the parameters have the slots from this one on, in order
-abbrev pub HaveSlotsFrom : ℕ → List (Param Slot) → Type 0
-HaveSlotsFrom n [] = Unit {0}
-HaveSlotsFrom n (param ∷ params) = (param.name.0 ≡ n) × HaveSlotsFrom (n + 1) params
 
 -- one function without constructor parameters, whose one statement is a require
 pub record IsEmittable (contract : Contract Slot Ty) : Type 0 where

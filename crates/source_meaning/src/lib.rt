@@ -2,5 +2,10 @@
 #![tactic(auto)]
 
 pub mod outcome;
+pub mod room;
 
 pub use outcome::{Failure, SourceOutcome};
+pub use room::SourceRoom;
+
+#[cfg(test)]
+mod tests;
