@@ -55,22 +55,66 @@ fn expect(
 fn one_opcode(rt: HostRuntime) -> Result<(), Fail> {
     let mut machine = Machine::new(rt.alloc())?;
     for (opcode, elements, end) in [
-        (Opcode::NUMEQUAL, [b"\x05".as_slice(), b"\x05", b"\x07"].as_slice(), Ok([b"\x01".as_slice(), b"\x07"].as_slice())),
+        (
+            Opcode::NUMEQUAL,
+            [b"\x05".as_slice(), b"\x05", b"\x07"].as_slice(),
+            Ok([b"\x01".as_slice(), b"\x07"].as_slice()),
+        ),
         (Opcode::NUMEQUAL, &[b"\x06", b"\x05"], Ok(&[b""])),
         (Opcode::NUMEQUAL, &[b"\x85", b"\x05"], Ok(&[b""])),
         (Opcode::NUMEQUAL, &[b"", b""], Ok(&[b"\x01"])),
         // A number has at most eight bytes, and is minimal.
-        (Opcode::NUMEQUAL, &[b"\x05", b"\x05\0\0\0\0\0\0\0\x01"], fails(0, NOT_A_NUMBER)),
-        (Opcode::NUMEQUAL, &[b"\x05\0\0\0\0\0\0\0\x01", b"\x05"], fails(0, NOT_A_NUMBER)),
-        (Opcode::NUMEQUAL, &[b"\x05", b"\x05\0"], fails(0, NOT_A_NUMBER)),
-        (Opcode::NUMEQUAL, &[b"\x05\0", b"\x05"], fails(0, NOT_A_NUMBER)),
-        (Opcode::NUMEQUAL, &[b"\x05"], fails(0, MachineCause::Underflow)),
+        (
+            Opcode::NUMEQUAL,
+            &[b"\x05", b"\x05\0\0\0\0\0\0\0\x01"],
+            fails(0, NOT_A_NUMBER),
+        ),
+        (
+            Opcode::NUMEQUAL,
+            &[b"\x05\0\0\0\0\0\0\0\x01", b"\x05"],
+            fails(0, NOT_A_NUMBER),
+        ),
+        (
+            Opcode::NUMEQUAL,
+            &[b"\x05", b"\x05\0"],
+            fails(0, NOT_A_NUMBER),
+        ),
+        (
+            Opcode::NUMEQUAL,
+            &[b"\x05\0", b"\x05"],
+            fails(0, NOT_A_NUMBER),
+        ),
+        (
+            Opcode::NUMEQUAL,
+            &[b"\x05"],
+            fails(0, MachineCause::Underflow),
+        ),
         // PICK copies the element so many below its index.
-        (Opcode::PICK, &[b"", b"a", b"b", b"c"], Ok(&[b"a", b"a", b"b", b"c"])),
-        (Opcode::PICK, &[b"\x01", b"a", b"b", b"c"], Ok(&[b"b", b"a", b"b", b"c"])),
-        (Opcode::PICK, &[b"\x02", b"a", b"b", b"c"], Ok(&[b"c", b"a", b"b", b"c"])),
-        (Opcode::PICK, &[b"\x03", b"a", b"b", b"c"], fails(0, MachineCause::Underflow)),
-        (Opcode::PICK, &[b"\x81", b"a", b"b"], fails(0, MachineCause::Underflow)),
+        (
+            Opcode::PICK,
+            &[b"", b"a", b"b", b"c"],
+            Ok(&[b"a", b"a", b"b", b"c"]),
+        ),
+        (
+            Opcode::PICK,
+            &[b"\x01", b"a", b"b", b"c"],
+            Ok(&[b"b", b"a", b"b", b"c"]),
+        ),
+        (
+            Opcode::PICK,
+            &[b"\x02", b"a", b"b", b"c"],
+            Ok(&[b"c", b"a", b"b", b"c"]),
+        ),
+        (
+            Opcode::PICK,
+            &[b"\x03", b"a", b"b", b"c"],
+            fails(0, MachineCause::Underflow),
+        ),
+        (
+            Opcode::PICK,
+            &[b"\x81", b"a", b"b"],
+            fails(0, MachineCause::Underflow),
+        ),
         (Opcode::PICK, &[b"\0", b"a", b"b"], fails(0, NOT_A_NUMBER)),
         // It first looks for an element below its index.
         (Opcode::PICK, &[b"\0"], fails(0, MachineCause::Underflow)),
@@ -80,7 +124,11 @@ fn one_opcode(rt: HostRuntime) -> Result<(), Fail> {
         (Opcode::NOP, &[b"a", b"b"], Ok(&[b"a", b"b"])),
         (Opcode::NOP, &[], Ok(&[])),
         // RETURN has no meaning here.
-        (Opcode(0x6a), &[b"a", b"b"], fails(0, MachineCause::BadOpcode)),
+        (
+            Opcode(0x6a),
+            &[b"a", b"b"],
+            fails(0, MachineCause::BadOpcode),
+        ),
     ] {
         let code = [Instr::Do(opcode)];
         expect(&rt, rt.alloc(), &mut machine, &code, elements, end)?;
@@ -99,11 +147,39 @@ fn a_run_stops_at_its_first_failure(rt: HostRuntime) -> Result<(), Fail> {
         Instr::Do(Opcode::NIP),
     ];
     let alloc = rt.alloc();
-    expect(&rt, alloc, &mut machine, &code, &[b"a"], fails(1, MachineCause::Underflow))?;
-    expect(&rt, alloc, &mut machine, &code, &[b"a", b"\x05\0"], fails(2, NOT_A_NUMBER))?;
-    expect(&rt, alloc, &mut machine, &code, &[b"a", b"a"], fails(3, MachineCause::BadOpcode))?;
+    expect(
+        &rt,
+        alloc,
+        &mut machine,
+        &code,
+        &[b"a"],
+        fails(1, MachineCause::Underflow),
+    )?;
+    expect(
+        &rt,
+        alloc,
+        &mut machine,
+        &code,
+        &[b"a", b"\x05\0"],
+        fails(2, NOT_A_NUMBER),
+    )?;
+    expect(
+        &rt,
+        alloc,
+        &mut machine,
+        &code,
+        &[b"a", b"a"],
+        fails(3, MachineCause::BadOpcode),
+    )?;
     // Nothing of a run that failed is left.
-    expect(&rt, alloc, &mut machine, &code[..1], &[b"a"], Ok(&[b"\x01", b"a"]))?;
+    expect(
+        &rt,
+        alloc,
+        &mut machine,
+        &code[..1],
+        &[b"a"],
+        Ok(&[b"\x01", b"a"]),
+    )?;
     expect(&rt, alloc, &mut machine, &[], &[], Ok(&[]))?;
     Ok(())
 }

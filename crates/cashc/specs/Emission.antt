@@ -1,18 +1,15 @@
 -- What the emitter promises of the instructions that it adds.
-use Rattle.std.specs.Prelude.{◌≡◌, ℕ, ◌+◌, ◌*◌, ◌^◌, ◌<◌, ◌≤◌, Bool, true, ◌&&◌, nat_lt, List, [], ◌∷◌, ◌++◌, length, slice_index_or, Result, Ok, Err}
+use Rattle.std.specs.Prelude.{◌≡◌, ℕ, ◌<◌, ◌≤◌, List, [], ◌∷◌, ◌++◌, length, slice_index_or, Result, Ok, Err}
 use Rattle.cash_base.specs.declared.place.Slot.{Slot}
 use Rattle.cash_tree.specs.declared.Ty.{Ty}
-use Rattle.cash_tree.specs.declared.Param.{Param}
 use Rattle.cash_tree.specs.declared.Contract.{Contract}
 use Rattle.cash_tree.specs.declared.Function.{Function}
 use Rattle.cash_tree.specs.declared.Stmt.{Stmt}
 use Rattle.cash_tree.specs.declared.StmtKind.TheVariants.{Require}
 use Rattle.cash_tree.specs.declared.Expr.{Expr}
-use Rattle.cash_tree.specs.declared.ExprKind.TheOpen.{ExprKind-F, Expr-F}
-use Rattle.cash_tree.specs.declared.ExprKind.TheFolds.{fold-Expr}
 use Rattle.source_meaning.specs.declared.outcome.Failure as source
 use Rattle.source_meaning.specs.Meaning.{Env, Value}
-use Rattle.source_meaning.specs.Runnable.{HaveSlotsFrom}
+use Rattle.source_meaning.specs.Runnable.{HaveSlotsFrom, IsRunnable}
 use Rattle.bch_vm.specs.declared.instr.Instr.{Instr}
 use Rattle.bch_vm.specs.declared.machine.Failure.{Failure}
 use Rattle.bch_vm.specs.Stack.{Stack}
@@ -20,27 +17,6 @@ use Rattle.bch_vm.specs.Script.{State, state, run}
 use Rattle.cashc.specs.declared.emission.Emitter.{Emitter}
 
 -- ---- what can be emitted
-
--- at most so many operands stand at once
-abbrev pub most_operands : ℕ
-most_operands = 1000
-
--- of so many parameters, and above so many operands
-abbrev pub Test : Type 0
-Test = ℕ → ℕ → Bool
-
--- literals are script numbers, and names are those of parameters
-abbrev pub kind_test : ExprKind-F Slot Ty Test Test → Test
-kind_test (ExprKind-F.Int digits unit) params depth = nat_lt (digits * unit) (2 ^ 63)
-kind_test (ExprKind-F.Name slot) params depth = nat_lt slot.0 params
-kind_test (ExprKind-F.Binary op left right) params depth =
-    nat_lt depth most_operands && (left params depth && right params (depth + 1))
-
-abbrev pub node_test : Expr-F Slot Ty Test Test → Test
-node_test e = e.kind
-
-abbrev pub is_emittable : Expr Slot Ty → Test
-is_emittable = fold-Expr Slot Ty Test Test kind_test node_test
 
 -- one function without constructor parameters, whose one statement is a require
 pub record IsEmittable (contract : Contract Slot Ty) : Type 0 where
@@ -53,7 +29,7 @@ pub record IsEmittable (contract : Contract Slot Ty) : Type 0 where
   pub checks : statement.kind ≡ Require value
   pub few : length function.params ≤ 16
   pub slots : HaveSlotsFrom 0 function.params
-  pub emittable : is_emittable value (length function.params) 0 ≡ true
+  pub runnable : IsRunnable (length function.params) value
 
 -- ---- what emitted code does
 

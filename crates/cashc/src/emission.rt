@@ -3,9 +3,10 @@
 ghost use Rattle.std.specs.Prelude.{◌≡◌, ◌+◌, ◌*◌, ◌≤◌, ◌<◌, ◌^◌, [], ◌∷◌, ◌++◌, length, pos, true, IsTrue, OnOk, IfOk, replicate};
 ghost use Rattle.cash_tree.specs.declared.ExprKind.TheOpen.{ExprKind-F};
 ghost use Rattle.source_meaning.specs.Meaning.{value_of, kind_value};
+ghost use Rattle.source_meaning.specs.Runnable.{is_runnable, nodes};
 ghost use Rattle.bch_vm.specs.declared.instr.Instr.TheVariants.{Do};
 ghost use Rattle.cashc.specs.Decides.{DecidesByRun};
-ghost use Rattle.cashc.specs.Emission.{Emits, is_emittable, IsEmittable};
+ghost use Rattle.cashc.specs.Emission.{Emits, IsEmittable};
 
 use bch_vm::{Instr, Opcode};
 use cash_base::{Slot, Span, write_number};
@@ -68,8 +69,8 @@ impl Emitter {
 
     /// The value of an expression, above so many operands.
     fn expression(&mut self, e: &Expr<Slot, Ty>, depth: usize) -> Result<(), AllocError>
-        requires emittable { IsTrue (is_emittable e.now self.old.params depth) }
-        requires room { depth ≤ 1000 }
+        requires runnable { IsTrue (is_runnable e.now self.old.params) }
+        requires room { depth + nodes e.now ≤ 1000 }
         ensures { OnOk result (Emits self.old self.new depth (value_of e.now)) }
     {
         let span = e.span;

@@ -4,6 +4,8 @@
 pub mod compile;
 pub mod emission;
 pub mod reading;
+#[cfg(test)]
+mod run_tests;
 pub mod script_codec;
 #[cfg(test)]
 mod tests;
