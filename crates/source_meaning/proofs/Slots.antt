@@ -1,5 +1,5 @@
 -- The slots of the parameters hold the elements.
-use Rattle.std.proofs.Common.{◌≡◌, ℕ, zero, suc, ◌+◌, ◌-◌, ◌<◌, ◌≤◌, cond, eqb, List, [], ◌∷◌, ◌++◌, length, map, get_or, refl, sym, ap, ◌∙◌, subst, inl, inr, arith, append_assoc}
+use Rattle.std.proofs.Common.{◌≡◌, ℕ, ◌-◌, ◌<◌, ◌≤◌, cond, eqb, List, [], ◌∷◌, ◌++◌, length, map, get_or, refl, sym, ap, ◌∙◌, subst, inl, inr, arith, append_assoc}
 use Rattle.std.proofs.Math.Path.{fun_ext}
 use Rattle.std.proofs.lemmas.List.{append-nil, length-append, length-map, get_or_append_left, get_or-append_right, get_or-map, get_or_past}
 use Rattle.std.proofs.lemmas.Bool.{cond-true, cond-false, eq-eqb, ne_eqb, cases_order}
@@ -11,12 +11,14 @@ use Rattle.source_meaning.specs.Runnable.{HaveSlotsFrom, env_of}
 
 -- ---- what the code reads
 
+-- a slot of the constructor
 pub slot_of_ctor : {X : Type 0} (f : X → List ℕ) (ctor args : List X) (elements : List (List ℕ)) (slot : Slot) (i : ℕ) (d : X) → map f ctor ++ map f args ≡ elements → i ≡ slot.0 → i < length ctor → env_of elements slot ≡ f (get_or ctor i d)
 unfolding env_of
 slot_of_ctor f ctor args elements slot i d whole is within =
     ap (λ l. get_or l slot.0 []) (sym whole) ∙ ap (λ k. get_or (map f ctor ++ map f args) k []) (sym is)
     ∙ get_or_append_left (map f ctor) (map f args) [] i (omega (arith, within, length-map ctor f)) ∙ get_or-map f ctor i d [] within
 
+-- a slot behind those of the constructor
 pub slot_of_args : {X : Type 0} (f : X → List ℕ) (ctor args : List X) (elements : List (List ℕ)) (slot : Slot) (i k : ℕ) (d : X) → map f ctor ++ map f args ≡ elements → i ≡ slot.0 → length ctor ≤ i → k ≡ i - length ctor → i < length elements → env_of elements slot ≡ f (get_or args k d)
 unfolding env_of
 slot_of_args f ctor args elements slot i k d whole is behind place within =
@@ -37,19 +39,19 @@ one_more before e k =
       ]
     ]
 
--- each slot holds the element of its number
-holds : (params : List (Param Slot)) (args before : List (List ℕ)) (env : Env) → HaveSlotsFrom (length before) params → length args ≡ length params → ((slot : Slot) → env slot ≡ get_or before slot.0 []) → (slot : Slot) → with_values params args env slot ≡ get_or (before ++ args) slot.0 []
-holds [] [] before env slots count is slot = is slot ∙ ap (λ l. get_or l slot.0 []) (sym (append-nil before))
-holds [] (arg ∷ args) before env slots count is slot = absurd (omega (arith, count))
-holds (param ∷ params) [] before env slots count is slot = absurd (omega (arith, count))
-holds (param ∷ params) (arg ∷ args) before env slots count is slot =
+-- Where each slot has held the element of its number before, it does with the parameters' elements behind those.
+pub with_values-get_or : (params : List (Param Slot)) (args before : List (List ℕ)) (env : Env) → HaveSlotsFrom (length before) params → length args ≡ length params → ((slot : Slot) → env slot ≡ get_or before slot.0 []) → (slot : Slot) → with_values params args env slot ≡ get_or (before ++ args) slot.0 []
+with_values-get_or [] [] before env slots count is slot = is slot ∙ ap (λ l. get_or l slot.0 []) (sym (append-nil before))
+with_values-get_or [] (arg ∷ args) before env slots count is slot = absurd (omega (arith, count))
+with_values-get_or (param ∷ params) [] before env slots count is slot = absurd (omega (arith, count))
+with_values-get_or (param ∷ params) (arg ∷ args) before env slots count is slot =
     let behind : HaveSlotsFrom (length (before ++ arg ∷ [])) params = subst (λ n. HaveSlotsFrom n params) (sym (length-append before (arg ∷ []))) slots.1 in
     let now : (other : Slot) → with_value param.name arg env other ≡ get_or (before ++ arg ∷ []) other.0 [] =
     λ other. ap (λ n. cond (eqb other.0 n) arg (env other)) slots.0 ∙ ap (λ v. cond (eqb other.0 (length before)) arg v) (is other) ∙ one_more before arg other.0 in
-    holds params args (before ++ arg ∷ []) (with_value param.name arg env) behind (omega (arith, count)) now slot ∙ ap (λ l. get_or l slot.0 []) (append_assoc before (arg ∷ []) args)
+    with_values-get_or params args (before ++ arg ∷ []) (with_value param.name arg env) behind (omega (arith, count)) now slot ∙ ap (λ l. get_or l slot.0 []) (append_assoc before (arg ∷ []) args)
 
 -- the parameters of the constructor and of a function, in order, hold the elements
 pub with_values-env_of : (ctor_params params : List (Param Slot)) (ctor args : List (List ℕ)) → HaveSlotsFrom 0 ctor_params → length ctor ≡ length ctor_params → HaveSlotsFrom (length ctor) params → length args ≡ length params → with_values params args (with_values ctor_params ctor no_values) ≡ env_of (ctor ++ args)
 unfolding env_of
 with_values-env_of ctor_params params ctor args ctor_slots ctor_count slots count =
-    fun_ext (holds params args ctor (with_values ctor_params ctor no_values) slots count (holds ctor_params ctor [] no_values ctor_slots ctor_count (λ slot. refl)))
+    fun_ext (with_values-get_or params args ctor (with_values ctor_params ctor no_values) slots count (with_values-get_or ctor_params ctor [] no_values ctor_slots ctor_count (λ slot. refl)))

@@ -1,5 +1,5 @@
 -- What a contract means over its named variables: the value of an expression, what statements do, and how a run ends.
-use Rattle.std.specs.Prelude.{ℕ, ◌*◌, ◌==◌, if◌then◌else◌, List, [], ◌∷◌, ℤ, pos, Result, Ok, Err}
+use Rattle.std.specs.Prelude.{ℕ, ◌*◌, ◌==◌, if◌then◌else◌, List, [], ◌∷◌, pos, Result, Ok, Err}
 use Rattle.cash_base.specs.declared.fault.Cause.{Cause}
 use Rattle.cash_base.specs.declared.fault.Cause.TheVariants.{CheckFailed}
 use Rattle.cash_base.specs.declared.place.Span.{Span}

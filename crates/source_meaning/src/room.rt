@@ -31,7 +31,8 @@ impl Model for SourceRoom {
     ghost invariant = { λ room. 1000 ≤ vec_capacity room.stack };
 }
 
-/// The elements of the parameters, which contracts see as one list: the constructor's, and behind them the function's.
+/// The elements of the parameters, which contracts see as one list: the constructor's, and behind them the
+/// function's.
 #[derive(Drop)]
 struct Slots<'a> {
     ctor: &'a [Element],
@@ -101,7 +102,7 @@ impl SourceRoom {
         self.push(copy_of(slots.get(slot).as_slice()));
     }
 
-    /// Takes the two values on top, and puts that of the operator on top.
+    /// Takes the two values on top, of which the upper is the right side, and puts that of the operator on top.
     fn combine(&mut self, op: BinaryOp, span: Span) -> Result<(), Failure>
         requires operands { 2 ≤ length self.old }
         requires places { length self.old ≤ 1000 }
@@ -131,7 +132,8 @@ impl SourceRoom {
         requires runnable { IsTrue (is_runnable e.now (length slots.now)) }
         requires places { length self.old + nodes e.now ≤ 1000 }
         ensures ok { OnOk result (pushed (value_of e.now (env_of slots.now)) self.old ≡ Ok self.new) }
-        ensures err { IfErr result (λ failure. pushed (value_of e.now (env_of slots.now)) self.old ≡ Err failure) }
+        ensures err { IfErr result (λ failure.
+            pushed (value_of e.now (env_of slots.now)) self.old ≡ Err failure) }
         ensures height { OnOk result (length self.new ≡ length self.old + 1) }
     {
         match &e.kind {
@@ -208,7 +210,9 @@ impl SourceRoom {
         args: &[Element],
     ) -> SourceOutcome
         requires { CanRun contract.now (length ctor.now) function (length args.now) }
-        ensures { IfSome (slice_get contract.now.functions function) (λ f. result ≡ source_outcome contract.now (map (λ e. e.items) ctor.now) f (map (λ e. e.items) args.now)) }
+        ensures { IfSome (slice_get contract.now.functions function) (λ f.
+            result ≡ source_outcome contract.now (map (λ e. e.items) ctor.now) f
+            (map (λ e. e.items) args.now)) }
     {
         let function = &contract.functions.as_slice()[function];
         let slots = Slots { ctor, args };

@@ -1,7 +1,7 @@
 // Runs of contracts that are built by hand.
 
-ghost use Rattle.std.specs.Prelude.{◌≡◌, ◌+◌, ◌*◌, ◌^◌, ◌≤◌, ◌<◌, IsTrue, IfOk};
-ghost use Rattle.source_meaning.specs.Runnable.{is_runnable, nodes, IsRunnable, CanRun};
+ghost use Rattle.std.specs.Prelude.{◌≡◌, ◌+◌, ◌*◌, ◌^◌, ◌≤◌, ◌<◌, length, IsTrue, IfOk};
+ghost use Rattle.source_meaning.specs.Runnable.{is_runnable, nodes, IsRunnable, HaveSlotsFrom, CanRun};
 
 use crate::{SourceOutcome, SourceRoom};
 use cash_base::{Cause, Element, Slot, Span};
@@ -96,10 +96,18 @@ fn param(slot: u16, from: u32) -> Param<Slot>
     }
 }
 
-// The contract above, with this value in its `require`.
-fn contract(alloc: Global, value: Expr<Slot, Ty>) -> Result<TypedContract, AllocError>
-    requires { IsRunnable 2 value }
-    ensures { IfOk result (λ contract. CanRun contract 0 0 2) }
+// The contract above, with these parameters, and with this value in its `require`.
+fn contract(
+    alloc: Global,
+    constructor: Vec<Param<Slot>>,
+    params: Vec<Param<Slot>>,
+    value: Expr<Slot, Ty>,
+) -> Result<TypedContract, AllocError>
+    requires constructor { HaveSlotsFrom 0 constructor.items }
+    requires params { HaveSlotsFrom (length constructor.items) params.items }
+    requires runnable { IsRunnable (length constructor.items + length params.items) value }
+    ensures { IfOk result (λ contract.
+        CanRun contract (length constructor.items) 0 (length params.items)) }
 {
     let statement = Stmt {
         kind: StmtKind::Require { value },
@@ -108,14 +116,14 @@ fn contract(alloc: Global, value: Expr<Slot, Ty>) -> Result<TypedContract, Alloc
     let function = Function {
         name: Span { from: 24, to: 25 },
         span: FUNCTION,
-        params: Items::from_vec(Vec::from_array(alloc, [param(0, 30), param(1, 37)])?),
+        params: Items::from_vec(params),
         body: Items::from_vec(Vec::from_array(alloc, [statement])?),
     };
     Ok(TypedContract {
         name: Span { from: 9, to: 10 },
         span: CONTRACT,
         pragmas: Items::new(alloc),
-        params: Items::new(alloc),
+        params: Items::from_vec(constructor),
         functions: Items::from_vec(Vec::from_array(alloc, [function])?),
     })
 }
@@ -130,9 +138,28 @@ fn outcome(
 ) -> Result<SourceOutcome, AllocError>
     requires { IsRunnable 2 value }
 {
-    let contract = contract(alloc, value)?;
+    let params = Vec::from_array(alloc, [param(0, 30), param(1, 37)])?;
+    let contract = contract(alloc, Vec::new(alloc), params, value)?;
     let args = [element(x), element(y)];
     Ok(room.run(&contract, &[], 0, &args))
+}
+
+// The same where `x` is a parameter of the constructor.
+fn constructed_outcome(
+    alloc: Global,
+    room: &mut SourceRoom,
+    value: Expr<Slot, Ty>,
+    x: &[u8],
+    y: &[u8],
+) -> Result<SourceOutcome, AllocError>
+    requires { IsRunnable 2 value }
+{
+    let constructor = Vec::from_array(alloc, [param(0, 30)])?;
+    let params = Vec::from_array(alloc, [param(1, 37)])?;
+    let contract = contract(alloc, constructor, params, value)?;
+    let ctor = [element(x)];
+    let args = [element(y)];
+    Ok(room.run(&contract, &ctor, 0, &args))
 }
 
 #[test]
@@ -171,6 +198,8 @@ fn a_literal_on_one_side(rt: HostRuntime) -> Result<(), Fail> {
         assert_eq!(rt; outcome(alloc, &mut room, value, b"", x)?, end);
         let value = comparison(alloc, name(0, LEFT), literal(10, 60, RIGHT), COMPARISON)?;
         assert_eq!(rt; outcome(alloc, &mut room, value, x, b"")?, end);
+        let value = comparison(alloc, name(0, LEFT), literal(10, 60, RIGHT), COMPARISON)?;
+        assert_eq!(rt; constructed_outcome(alloc, &mut room, value, x, b"")?, end);
     }
     Ok(())
 }

@@ -1,4 +1,3 @@
-use Rattle.std.proofs.Common.{◌≡◌, map}
 use Rattle.std.proofs.lemmas.List.{length-map}
 use Rattle.source_meaning.proofs.Steps.{ends}
 use Rattle.source_meaning.proofs.room.SourceRoom.run.Goals as goal
