@@ -1,5 +1,5 @@
 -- Emitted code leaves the values of expressions, piece by piece.
-use Rattle.std.proofs.Common.{◌≡◌, ℕ, ◌+◌, ◌*◌, ◌^◌, ◌<◌, List, [], ◌∷◌, ◌++◌, length, get_or, Result, Ok, Err, Some, ℤ, pos, refl, sym, ap, ◌∙◌, subst, arith, append_assoc}
+use Rattle.std.proofs.Common.{◌≡◌, ℕ, ◌+◌, ◌*◌, ◌^◌, ◌<◌, List, [], ◌∷◌, ◌++◌, length, get_or, Result, Ok, Err, Some, ℤ, pos, refl, sym, ap, ◌∙◌, subst, arith, append_assoc, true}
 use Rattle.std.specs.Prelude.{slice_get, slice_index_or}
 use Rattle.std.proofs.lemmas.Option.{slice_get_within, slice_get-get_or}
 use Rattle.std.proofs.lemmas.List.{get_or-append-add, length-append}
@@ -24,10 +24,18 @@ use Rattle.bch_vm.specs.Opcode.{copied_at, element_or_underflow, picked}
 use Rattle.bch_vm.specs.Script.{State, state, run, passed}
 use Rattle.bch_vm.proofs.Runs.{run_append}
 use Rattle.cashc.specs.declared.emission.Emitter.{Emitter}
+use Rattle.std.specs.Prelude.{◌&&◌}
+use Rattle.std.proofs.lemmas.Bool.{and_from}
+use Rattle.cashc.specs.Spelling.{is_instruction, are_instructions}
 use Rattle.cashc.specs.Emission.{Leaves, Follows, Emits}
 
 abbrev pub opcode : ℕ → Instr
 opcode n = Do (record { 0 = n })
+
+-- one more instruction
+pub instruction_put : (code new : List Instr) (instr : Instr) → is_instruction instr ≡ true → new ≡ code ++ instr ∷ [] → are_instructions new ≡ are_instructions code
+instruction_put [] new instr is e = ap are_instructions e ∙ and_from _ _ is refl
+instruction_put (first ∷ code) new instr is e = ap are_instructions e ∙ ap (λ t. is_instruction first && t) (instruction_put code (code ++ instr ∷ []) instr is refl)
 
 -- ---- a literal
 

@@ -1,5 +1,5 @@
 -- What compiling a source answers.
-use Rattle.std.specs.Prelude.{◌≡◌, ℕ, ◌<◌, ◌≤◌, List, length}
+use Rattle.std.specs.Prelude.{◌≡◌, ℕ, ◌<◌, ◌≤◌, List, length, IsTrue}
 use Rattle.cash_base.specs.declared.place.Slot.{Slot}
 use Rattle.cash_base.specs.declared.place.Span.{Span}
 use Rattle.cash_tree.specs.declared.Ty.{Ty}
@@ -9,10 +9,11 @@ use Rattle.cashc.specs.declared.compile.Refusal.{Refusal}
 use Rattle.cashc.specs.declared.compile.Refusal.TheVariants.{SourceTooLong, NotBuilt, Memory}
 use Rattle.cashc.specs.Form.{max_source_len, IsOfForm}
 use Rattle.cashc.specs.Decides.{DecidesByRun}
+use Rattle.cashc.specs.Spelling.{are_instructions}
 
--- the source stands for a contract that the code decides
+-- the source stands for a contract that the code decides, and each instruction of the code has its spelling
 abbrev pub IsCompiled : List ℕ → List Instr → Type 0
-IsCompiled source code = (contract : Contract Slot Ty) × IsOfForm source contract × DecidesByRun contract code
+IsCompiled source code = (contract : Contract Slot Ty) × IsOfForm source contract × DecidesByRun contract code × IsTrue (are_instructions code)
 
 -- the source stands for no contract
 abbrev pub IsOfNoForm : List ℕ → Type 0

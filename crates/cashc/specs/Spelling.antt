@@ -1,9 +1,18 @@
 -- Instructions as bytes, each in its minimal spelling, as the Bitcoin Cash specification has it.
-use Rattle.std.specs.Prelude.{ℕ, ◌+◌, ◌/◌, ◌%◌, ◌==◌, ◌&&◌, nat_le, if◌then◌else◌, List, [], ◌∷◌, ◌++◌, length, codes}
-use Rattle.std.specs.List.{flat_map}
+use Rattle.std.specs.Prelude.{ℕ, ◌+◌, ◌/◌, ◌%◌, Bool, true, ◌==◌, ◌&&◌, nat_lt, nat_le, if◌then◌else◌, List, [], ◌∷◌, ◌++◌, length, codes}
+use Rattle.std.specs.List.{list_all, flat_map}
 use Rattle.hex.specs.Hex.{encode_lower}
 use Rattle.bch_vm.specs.declared.instr.Instr.{Instr}
 use Rattle.bch_vm.specs.declared.instr.Instr.TheVariants.{Push, Do}
+
+-- an opcode is above 60: a byte up to that spells a push
+abbrev pub is_instruction : Instr → Bool
+is_instruction (Push e) = true
+is_instruction (Do opcode) = nat_lt 0x60 opcode.0
+
+-- each instruction has a spelling that is read as the instruction
+abbrev pub are_instructions : List Instr → Bool
+are_instructions code = list_all is_instruction code
 
 -- an element of one byte: 1 to 16 and -1 have an opcode of their own
 abbrev pub short_push : ℕ → List ℕ

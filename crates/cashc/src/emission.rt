@@ -6,6 +6,7 @@ ghost use Rattle.source_meaning.specs.Meaning.{value_of, kind_value};
 ghost use Rattle.source_meaning.specs.Runnable.{is_runnable, nodes};
 ghost use Rattle.bch_vm.specs.declared.instr.Instr.TheVariants.{Do};
 ghost use Rattle.cashc.specs.Decides.{DecidesByRun};
+ghost use Rattle.cashc.specs.Spelling.{is_instruction, are_instructions};
 ghost use Rattle.cashc.specs.Emission.{Emits, IsEmittable};
 
 use bch_vm::{Instr, Opcode};
@@ -21,9 +22,12 @@ pub struct Emitter {
 }
 
 impl Emitter {
+    #[tactic(auto, using(crate::proofs::Emits::instruction_put))]
     fn put(&mut self, instr: Instr) -> Result<(), AllocError>
+        requires { IsTrue (is_instruction instr) }
         ensures code { OnOk result (self.new.code.items ≡ self.old.code.items ++ instr ∷ []) }
         ensures params { self.new.params ≡ self.old.params }
+        ensures spelled { OnOk result (are_instructions self.new.code.items ≡ are_instructions self.old.code.items) }
     {
         self.code.push(instr)?;
         Ok(())
@@ -38,7 +42,8 @@ impl Emitter {
         span: Span,
     ) -> Result<(), AllocError>
         requires { digits * unit < 2 ^ 63 }
-        ensures { OnOk result (Emits self.old self.new depth (kind_value (ExprKind-F.Int digits unit) span)) }
+        ensures emits { OnOk result (Emits self.old self.new depth (kind_value (ExprKind-F.Int digits unit) span)) }
+        ensures spelled { OnOk result (are_instructions self.new.code.items ≡ are_instructions self.old.code.items) }
     {
         let n = digits * u128::from(unit);
         self.put(Instr::Push(write_number(n as i64)))?;
@@ -49,7 +54,8 @@ impl Emitter {
     fn name(&mut self, slot: Slot, depth: usize, span: Span) -> Result<(), AllocError>
         requires known { slot.0 < self.old.params }
         requires room { depth ≤ 1000 }
-        ensures { OnOk result (Emits self.old self.new depth (kind_value (ExprKind-F.Name slot) span)) }
+        ensures emits { OnOk result (Emits self.old self.new depth (kind_value (ExprKind-F.Name slot) span)) }
+        ensures spelled { OnOk result (are_instructions self.new.code.items ≡ are_instructions self.old.code.items) }
     {
         let below = depth + usize::from(slot.0);
         self.put(Instr::Push(write_number(below as i64)))?;
@@ -60,6 +66,7 @@ impl Emitter {
     fn operator(&mut self, op: BinaryOp) -> Result<(), AllocError>
         ensures code { OnOk result (self.new.code.items ≡ self.old.code.items ++ Do (record { 0 = 0x9c }) ∷ []) }
         ensures params { self.new.params ≡ self.old.params }
+        ensures spelled { OnOk result (are_instructions self.new.code.items ≡ are_instructions self.old.code.items) }
     {
         match op {
             BinaryOp::Equal => self.put(Instr::Do(Opcode::NUMEQUAL))?,
@@ -71,7 +78,8 @@ impl Emitter {
     fn expression(&mut self, e: &Expr<Slot, Ty>, depth: usize) -> Result<(), AllocError>
         requires runnable { IsTrue (is_runnable e.now self.old.params) }
         requires room { depth + nodes e.now ≤ 1000 }
-        ensures { OnOk result (Emits self.old self.new depth (value_of e.now)) }
+        ensures emits { OnOk result (Emits self.old self.new depth (value_of e.now)) }
+        ensures spelled { OnOk result (are_instructions self.new.code.items ≡ are_instructions self.old.code.items) }
     {
         let span = e.span;
         match &e.kind {
@@ -88,7 +96,8 @@ impl Emitter {
 
     /// Drops the parameters below the one value on top.
     fn drop_params(&mut self) -> Result<(), AllocError>
-        ensures { OnOk result (self.new.code.items ≡ self.old.code.items ++ replicate self.old.params (Do (record { 0 = 0x77 }))) }
+        ensures code { OnOk result (self.new.code.items ≡ self.old.code.items ++ replicate self.old.params (Do (record { 0 = 0x77 }))) }
+        ensures spelled { OnOk result (are_instructions self.new.code.items ≡ are_instructions self.old.code.items) }
     {
         for _ in 0..self.params {
             self.put(Instr::Do(Opcode::NIP))?;
@@ -103,7 +112,8 @@ impl Emitter {
 #[tactic(auto, using(crate::proofs::Decided::decided))]
 pub fn emit(alloc: Global, contract: &TypedContract) -> Result<Vec<Instr>, AllocError>
     requires { IsEmittable contract.now }
-    ensures { IfOk result (λ code. DecidesByRun contract.now code.items) }
+    ensures decides { IfOk result (λ code. DecidesByRun contract.now code.items) }
+    ensures spelled { IfOk result (λ code. IsTrue (are_instructions code.items)) }
 {
     let function = &contract.functions.as_slice()[0];
     let StmtKind::Require { value } = &function.body.as_slice()[0].kind;

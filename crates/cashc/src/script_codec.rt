@@ -1,16 +1,18 @@
 //! Instructions as bytes.
 
-ghost use Rattle.std.specs.Prelude.{◌≡◌, ◌≤◌, ◌++◌, length, IfOk, OnOk};
-ghost use Rattle.cashc.specs.Spelling.{minimal_push, spelling, spellings, short_push, push_prefix};
+ghost use Rattle.std.specs.Prelude.{◌≡◌, ◌≤◌, ◌++◌, length, IsTrue, IfOk, OnOk};
+ghost use Rattle.cashc.specs.Spelling.{are_instructions, minimal_push, spelling, spellings, short_push, push_prefix};
 
 use bch_vm::Instr;
 use cash_base::Memory;
 use std::alloc::{AllocError, Global};
 
-/// The bytes of some instructions, each in its minimal spelling.
+/// The bytes of some instructions, each in its minimal spelling. Each opcode is above 60 in hexadecimal, since the bytes
+/// up to that spell pushes.
 ///
 /// Source: the Bitcoin Cash specification, on minimal pushes.
 pub fn encode(alloc: Global, code: &[Instr]) -> Result<Vec<u8>, Memory>
+    requires { IsTrue (are_instructions code.now) }
     ensures { IfOk result (λ bytes. bytes.items ≡ spellings code.now) }
 {
     let mut bytes = Vec::new(alloc);

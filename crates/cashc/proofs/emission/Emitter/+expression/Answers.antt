@@ -6,10 +6,10 @@ use Rattle.cashc.specs.Emission.{Emits}
 use Rattle.cashc.proofs.Emits.{emits_binary}
 use Rattle.cashc.proofs.emission.Emitter.+expression.Goals as goal
 
-pub returns-in_ok-operator-in-Binary : goal.returns-in_ok-operator-in-Binary
-returns-in_ok-operator-in-Binary t c =
-    let left = c.in_ok-expression-in-Binary.ensures in
-    let right = c.in_ok-expression-in-Binary-2.ensures in
+pub returns-in_ok-operator-in-Binary-clause-emits : goal.returns-in_ok-operator-in-Binary-clause-emits
+returns-in_ok-operator-in-Binary-clause-emits t c =
+    let left = c.in_ok-expression-in-Binary.ensures.emits in
+    let right = c.in_ok-expression-in-Binary-2.ensures.emits in
     let added = c.in_ok-operator-in-Binary.ensures in
     let whole : value_of c.args.e.now ≡ kind_value (ExprKind-F.Binary c.in-Binary.op (value_of c.get.result.now) (value_of c.get-in-Binary.result.now)) c.args.e.now.span = search (rules, the_lemmas) in
     subst (Emits c.args.self.now c.operator.new.self c.args.depth) (sym whole)
