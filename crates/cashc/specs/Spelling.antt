@@ -5,7 +5,7 @@ use Rattle.hex.specs.Hex.{encode_lower}
 use Rattle.bch_vm.specs.declared.instr.Instr.{Instr}
 use Rattle.bch_vm.specs.declared.instr.Instr.TheVariants.{Push, Do}
 
--- an opcode is above 60: a byte up to that spells a push
+-- an opcode is above 0x60: a byte up to that spells a push
 abbrev pub is_instruction : Instr → Bool
 is_instruction (Push e) = true
 is_instruction (Do opcode) = nat_lt 0x60 opcode.0
