@@ -3,7 +3,7 @@ use Rattle.std.specs.Prelude.{◌≡◌, ℕ, ◌<◌, ◌≤◌, ◌⊎◌, Lis
 use Rattle.std.specs.Str.{bytes_eq}
 use Rattle.std.specs.Global.{Global}
 use Rattle.std.specs.declared.string.String.{String}
-use Rattle.cash_base.specs.Outside.{Files, file_named, Rose, GrewByFront}
+use Rattle.cash_base.specs.Outside.{Files, file_named, Rose, Grew, GrewByFront}
 use Rattle.bch_vm.specs.declared.instr.Instr.{Instr}
 use Rattle.cashc.specs.Form.{max_source_len}
 use Rattle.cashc.specs.Compile.{IsCompiled, IsOfNoForm}
@@ -66,3 +66,8 @@ HasReadCause files words before now = Rose before now ⊎ IsSomeAnd files (λ fs
 -- a sink had a fault, and grew by a front of the text
 abbrev pub Stopped : ℕ → ℕ → Option (List ℕ) → Option (List ℕ) → List ℕ → Type 0
 Stopped faults_before faults_now before now text = Rose faults_before faults_now × GrewByFront before now text
+
+-- one write of the text was tried: a front of it was written, and all of it where the sink had no fault
+pub record Tried (faults_before faults_now : ℕ) (before now : Option (List ℕ)) (text : List ℕ) : Type 0 where
+  pub front : GrewByFront before now text
+  pub whole : (Rose faults_before faults_now → ⊥) → Grew before now text

@@ -3,11 +3,11 @@
 ghost use Rattle.std.specs.Prelude.{◌≡◌, ◌≢◌, ◌⊎◌, ◌≤◌, ℕ, List, None, Some, [], length, string_bytes, option_map, IfOk, IfErr, codes, ◌++◌};
 ghost use Rattle.bch_vm.specs.declared.instr.Instr.{Instr};
 ghost use Rattle.hex.specs.Hex.{encode_lower};
-ghost use Rattle.cash_base.specs.Outside.{Rose, Grew, GrewByFront};
+ghost use Rattle.cash_base.specs.Outside.{Grew};
 ghost use Rattle.cashc.specs.Form.{max_source_len};
 ghost use Rattle.cashc.specs.Compile.{IsCompiled, IsRefused, IsOfNoForm};
 ghost use Rattle.cashc.specs.Spelling.{code_line};
-ghost use Rattle.cashc.specs.TopCall.{named_source as source_of, usage, not_built, read_failed, out_of_memory, IsLine, IsRefusal, IsMisuse, HasReadCause, Stopped};
+ghost use Rattle.cashc.specs.TopCall.{named_source as source_of, usage, not_built, read_failed, out_of_memory, IsLine, IsRefusal, IsMisuse, HasReadCause, Stopped, Tried};
 
 use crate::compile::{Refusal, compile};
 use crate::reading::MAX_SOURCE_LEN;
@@ -57,7 +57,7 @@ pub fn cashc<S: Store, K: Sink, E: Sink>(
         × (K.written out.new ≡ K.written out.old) }
     ensures unread { result ≡ 5 →
         HasReadCause (S.files store.old) words.now (S.faults store.old) (S.faults store.new)
-        × GrewByFront (E.written err.old) (E.written err.new) read_failed × (K.written out.new ≡ K.written out.old) }
+        × Tried (E.faults err.old) (E.faults err.new) (E.written err.old) (E.written err.new) read_failed × (K.written out.new ≡ K.written out.old) }
     ensures stopped { result ≡ 6 →
         ((text : List ℕ) × (IsRefusal (S.files store.old) words.now text ⊎ IsMisuse words.now text)
         × Stopped (E.faults err.old) (E.faults err.new) (E.written err.old) (E.written err.new) text
@@ -66,7 +66,7 @@ pub fn cashc<S: Store, K: Sink, E: Sink>(
         × Stopped (K.faults out.old) (K.faults out.new) (K.written out.old) (K.written out.new) line
         × (E.written err.new ≡ E.written err.old)) }
     ensures memory { result ≡ 7 →
-        GrewByFront (E.written err.old) (E.written err.new) out_of_memory × (K.written out.new ≡ K.written out.old) }
+        Tried (E.faults err.old) (E.faults err.new) (E.written err.old) (E.written err.new) out_of_memory × (K.written out.new ≡ K.written out.old) }
     ensures only { (result ≡ 0) ⊎ (result ≡ 1) ⊎ (result ≡ 2) ⊎ (result ≡ 5) ⊎ (result ≡ 6) ⊎ (result ≡ 7) }
     // Words that are no command have no other answer than 2, or 6 where `err` fails.
     ensures always_misused { source_of words.now ≡ None → (result ≡ 2) ⊎ (result ≡ 6) }
@@ -110,7 +110,7 @@ fn compile_source<K: Sink, E: Sink>(alloc: Global, source: &[u8], out: &mut K, e
         × Stopped (K.faults out.old) (K.faults out.new) (K.written out.old) (K.written out.new) (code_line code)
         × (E.written err.new ≡ E.written err.old)) }
     ensures memory { result ≡ 7 →
-        GrewByFront (E.written err.old) (E.written err.new) out_of_memory × (K.written out.new ≡ K.written out.old) }
+        Tried (E.faults err.old) (E.faults err.new) (E.written err.old) (E.written err.new) out_of_memory × (K.written out.new ≡ K.written out.old) }
     ensures only { (result ≡ 0) ⊎ (result ≡ 1) ⊎ (result ≡ 6) ⊎ (result ≡ 7) }
 {
     match line_of(alloc, source) {
@@ -169,10 +169,10 @@ fn refuse<E: Sink>(err: &mut E, text: &[u8], status: u8) -> u8
 }
 
 /// Tries to write why the call failed, and answers the status whether or not that works.
-#[tactic(auto, using(crate::proofs::Told::grew_by_front))]
+#[tactic(auto, using(crate::proofs::Told::tried))]
 fn fail<E: Sink>(err: &mut E, text: &[u8], status: u8) -> u8
     requires { text.now ≢ [] }
-    ensures told { GrewByFront (E.written err.old) (E.written err.new) text.now }
+    ensures told { Tried (E.faults err.old) (E.faults err.new) (E.written err.old) (E.written err.new) text.now }
     ensures status { result ≡ status }
 {
     let _ = err.write_all(text);

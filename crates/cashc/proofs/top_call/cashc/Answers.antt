@@ -1,6 +1,6 @@
-use Rattle.std.proofs.Common.{◌≡◌, ◌∙◌, Some, Err, inl, inr, refl, sym, ap}
+use Rattle.std.proofs.Common.{rules, ◌≡◌, ◌∙◌, Some, Err, inl, inr, refl, sym, ap}
 use Rattle.cashc.specs.Spelling.{code_line}
-use Rattle.cashc.specs.TopCall.{named_source, not_built, IsLongSource}
+use Rattle.cashc.specs.TopCall.{named_source, not_built, IsLongSource, HasReadCause}
 use Rattle.cashc.proofs.Told.{source_read}
 use Rattle.cashc.proofs.top_call.cashc.Goals as goal
 
@@ -25,3 +25,11 @@ returns-in-Err-TooLong-clause-stopped g c = λ e.
     let named : named_source c.args.words.now ≡ Some c.as_str.result.now = sym c.in-Some.ensures ∙ ap Some (sym c.as_str.ensures.value) in
     let long : IsLongSource _ c.args.words.now = (c.as_str.result.now, named, c.in-Err-TooLong.ensures.reads.too_long (ap Err c.in-Err-TooLong.field-0-is)) in
     inl (c.as_bytes-in-Err-TooLong.result.now, inl (inl (long, c.as_bytes-in-Err-TooLong.ensures.value)), c.refuse-in-Err-TooLong.ensures.stopped e, refl)
+
+pub returns-in-Err-Failed-clause-unread : goal.returns-in-Err-Failed-clause-unread
+returns-in-Err-Failed-clause-unread g c = λ e.
+    let cause : HasReadCause (g.S.Store.files c.args.store.now) c.args.words.now (g.S.Store.faults c.args.store.now) (g.S.Store.faults c.read.new.self) = search rules in
+    (cause, rw c.as_bytes-in-Err-Failed.ensures.value at c.fail.ensures.told, refl)
+
+pub returns-clause-memory : goal.returns-clause-memory
+returns-clause-memory g c = λ e. (rw c.as_bytes-in-Err-Memory.ensures.value at c.fail-in-Err-Memory.ensures.told, refl)
