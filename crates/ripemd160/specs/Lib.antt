@@ -1,0 +1,2 @@
+pub mod Ripemd160
+pub mod Rounds
