@@ -1,7 +1,7 @@
 -- Runs compose.
 use Rattle.std.proofs.Common.{◌≡◌, List, [], ◌∷◌, ◌++◌, Result, Ok, Err, refl}
 use Rattle.cash_base.specs.Failing.{◌>>=◌}
-use Rattle.bch_vm.specs.declared.instr.Instr.{Instr}
+use Rattle.script_codec.specs.declared.instr.Instr.{Instr}
 use Rattle.bch_vm.specs.Script.{run, state_after, RunsInTurn}
 
 then_in_turn : {A B C E : Type 0} (r : Result A E) (f : A → Result B E) (g : B → Result C E) (h : A → Result C E) → ((a : A) → h a ≡ (f a >>= g)) → (r >>= h) ≡ ((r >>= f) >>= g)

@@ -3,9 +3,11 @@ use Rattle.std.specs.Prelude.{ℕ, ◌==◌, if◌then◌else◌, List, [], ◌�
 use Rattle.cash_base.specs.declared.fault.MachineCause.{MachineCause}
 use Rattle.cash_base.specs.declared.fault.MachineCause.TheVariants.{Underflow, BadOpcode}
 use Rattle.cash_base.specs.Failing.{◌>>=◌}
-use Rattle.cash_base.specs.NumEqual.{operand_number, num_equal}
-use Rattle.bch_vm.specs.declared.instr.Instr.{Instr}
-use Rattle.bch_vm.specs.declared.instr.Instr.TheVariants.{Push, Do}
+use Rattle.element_ops.specs.declared.op.Op2.TheVariants.{NumEqual}
+use Rattle.element_ops.specs.Operand.{operand_number}
+use Rattle.element_ops.specs.Operation.{result2}
+use Rattle.script_codec.specs.declared.instr.Instr.{Instr}
+use Rattle.script_codec.specs.declared.instr.Instr.TheVariants.{Push, Do}
 use Rattle.bch_vm.specs.Stack.{Stack, Action, shared, on_two}
 
 -- NOP: nothing
@@ -50,7 +52,7 @@ opcode_table =
     (0x61, unchanged)
     ∷ (0x77, nipped)
     ∷ (0x79, picked)
-    ∷ (0x9c, on_two num_equal)
+    ∷ (0x9c, on_two (result2 NumEqual))
     ∷ []
 
 -- the action of the row of this opcode

@@ -1,15 +1,16 @@
 //! The machine: a stack in a room that is reserved at first, so that its runs take no memory.
 
 ghost use Rattle.std.specs.Prelude.{◌≡◌, ◌+◌, ◌≤◌, ◌<◌, List, ℕ, length, map, reverse, IfOk, IfErr, OnOk, Ok, Err, [], ◌∷◌, ◌++◌};
-ghost use Rattle.cash_base.specs.NumEqual.{num_equal};
-ghost use Rattle.bch_vm.specs.declared.instr.Instr.{Instr};
+ghost use Rattle.element_ops.specs.Operation.{result2};
+ghost use Rattle.script_codec.specs.declared.instr.Instr.{Instr};
 ghost use Rattle.bch_vm.specs.Stack.{Stack, on_two};
 ghost use Rattle.bch_vm.specs.Opcode.{stack_after, action_in, opcode_table, nipped, picked, copied, copied_at, index_taken};
 ghost use Rattle.bch_vm.specs.Script.{RunsInTurn};
 
-use crate::instr::{Instr, Opcode};
 use cash_base::element::copy_of;
 use cash_base::{Cause, Element, MachineCause, Memory, read_number};
+use element_ops::{Op2, apply2};
+use script_codec::{Instr, Opcode};
 use std::alloc::Global;
 use std::marker::Model;
 
@@ -204,8 +205,8 @@ impl Machine {
 
     fn num_equal(&mut self) -> Result<(), MachineCause>
         requires { length self.old < 1003 }
-        ensures ok { OnOk result (on_two num_equal self.old ≡ Ok self.new) }
-        ensures err { IfErr result (λ cause. on_two num_equal self.old ≡ Err cause) }
+        ensures ok { OnOk result (on_two (result2 Op2.NumEqual) self.old ≡ Ok self.new) }
+        ensures err { IfErr result (λ cause. on_two (result2 Op2.NumEqual) self.old ≡ Err cause) }
         ensures height { length self.new ≤ length self.old }
     {
         let Some(b) = self.stack.pop() else {
@@ -214,7 +215,7 @@ impl Machine {
         let Some(a) = self.stack.pop() else {
             return Err(MachineCause::Underflow);
         };
-        match cash_base::num_equal(a.as_slice(), b.as_slice()) {
+        match apply2(Op2::NumEqual, a.as_slice(), b.as_slice()) {
             Ok(e) => {
                 self.push(e);
                 Ok(())

@@ -1,7 +1,8 @@
 // Runs of instructions. The expected values follow the Bitcoin Cash specification.
 
-use crate::{Failure, Instr, Machine, MachineCause, Opcode};
+use crate::{Failure, Machine, MachineCause};
 use cash_base::{Cause, Element};
+use script_codec::{Instr, Opcode};
 use std::alloc::{AllocError, Global};
 use std::process::Abort;
 use std::test::Fail;

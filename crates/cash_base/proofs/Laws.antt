@@ -11,11 +11,11 @@ use Rattle.cash_base.proofs.Reading.{number_read, below_limit}
 -- ---- the element of a sign and a magnitude has them
 
 -- an element with this sign and this magnitude, which isn't zero
-record Spells (negative : Bool) (n : ℕ) (e : List ℕ) : Type 0 where
-  some : 1 ≤ length e
-  magnitude_is : magnitude e ≡ n
-  sign_is : has_sign e ≡ negative
-  minimal : is_minimal e ≡ true
+pub record Spells (negative : Bool) (n : ℕ) (e : List ℕ) : Type 0 where
+  pub some : 1 ≤ length e
+  pub magnitude_is : magnitude e ≡ n
+  pub sign_is : has_sign e ≡ negative
+  pub minimal : is_minimal e ≡ true
 
 one_byte : (negative : Bool) (n : ℕ) → 0 < n → n < 128 → Spells negative n ((n + cond negative 128 0) ∷ [])
 one_byte true n h s = record { some = omega arith; magnitude_is = omega arith; sign_is = grind (arith, nat_tests); minimal = grind (arith, nat_tests) }
@@ -43,7 +43,7 @@ sign_passes negative b [] h = absurd (omega (arith, h))
 sign_passes negative b (d ∷ ds) h = refl
 
 -- so many places are enough
-digits_spell : (negative : Bool) (places n : ℕ) → 0 < n → n < 256 ^ places → Spells negative n (with_sign negative (digits places n))
+pub digits_spell : (negative : Bool) (places n : ℕ) → 0 < n → n < 256 ^ places → Spells negative n (with_sign negative (digits places n))
 digits_spell negative zero n h fits = absurd (omega (arith, h, fits))
 digits_spell negative (suc places) n h fits = by_size (cases_lt n 256) (λ p q. digits_spell negative places (n / 256) p q)
   where
@@ -70,13 +70,13 @@ digits_spell negative (suc places) n h fits = by_size (cases_lt n 256) (λ p q. 
     by_size (inl small) ih = subst (λ ds. Spells negative n (with_sign negative ds)) (sym (one_digit small)) (at_top small (cases_lt n 128))
     by_size (inr large) ih = further large (ih (omega (arith, large)) (omega (arith, fits)))
 
-with_sign_short : (negative : Bool) (d : ℕ) (ds : List ℕ) → length (with_sign negative (d ∷ ds)) ≤ suc (suc (length ds))
+pub with_sign_short : (negative : Bool) (d : ℕ) (ds : List ℕ) → length (with_sign negative (d ∷ ds)) ≤ suc (suc (length ds))
 with_sign_short true d [] = grind (arith, nat_tests)
 with_sign_short false d [] = grind (arith, nat_tests)
 with_sign_short negative d (c ∷ ds) = let ih = with_sign_short negative c ds in omega (arith, ih)
 
 -- and so many bytes
-digits_short : (negative : Bool) (places n : ℕ) → n < 128 * 256 ^ places → length (with_sign negative (digits (suc places) n)) ≤ suc places
+pub digits_short : (negative : Bool) (places n : ℕ) → n < 128 * 256 ^ places → length (with_sign negative (digits (suc places) n)) ≤ suc places
 digits_short negative zero n fits = by_size (cases_eq n 0)
   where
     by_size : (n ≡ 0) ⊎ (n ≡ 0 → ⊥) → length (with_sign negative (digits 1 n)) ≤ 1
@@ -112,7 +112,7 @@ one_again : (b : ℕ) → b < 256 → b % 128 + cond (leb 128 b) 128 0 ≡ b
 one_again b s = grind (arith, nat_tests)
 
 -- the digits of a number whose lowest is a
-digits_from : (places a n : ℕ) → a < 256 → 0 < a + 256 * n → digits (suc places) (a + 256 * n) ≡ a ∷ digits places n
+pub digits_from : (places a n : ℕ) → a < 256 → 0 < a + 256 * n → digits (suc places) (a + 256 * n) ≡ a ∷ digits places n
 digits_from places a n s h =
     let low : (a + 256 * n) % 256 ≡ a = omega (arith, s) in
     let high : (a + 256 * n) / 256 ≡ n = omega (arith, s) in
@@ -184,7 +184,7 @@ number_of-minimal_bytes (negsuc n) fits = spelled_number true (suc n) (omega ari
 bound_more : (b n k : ℕ) → b < 256 → 2 * n < 256 ^ suc k → 2 * (b + 256 * n) < 256 ^ suc (suc k)
 bound_more b n k low h = omega (arith, low, h)
 
-magnitude_bound : (e : List ℕ) → IsBytes e → 2 * magnitude e < 256 ^ length e
+pub magnitude_bound : (e : List ℕ) → IsBytes e → 2 * magnitude e < 256 ^ length e
 magnitude_bound [] bytes = omega arith
 magnitude_bound (b ∷ []) bytes = omega arith
 magnitude_bound (b ∷ c ∷ bs) bytes = bound_more b (magnitude (c ∷ bs)) (length bs) bytes.0 (magnitude_bound (c ∷ bs) bytes.1)

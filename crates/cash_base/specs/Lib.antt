@@ -1,6 +1,7 @@
+pub mod Element
 pub mod Failing
 pub mod Kept
-pub mod NumEqual
 pub mod Number
 pub mod Outside
 pub mod Real
+pub mod Width

@@ -25,6 +25,28 @@ pub enum Cause {
     CheckFailed,
     /// An operand is read as a number, and is no script number.
     NotANumber,
+    /// A number is outside -(2^63 - 1) to 2^63 - 1.
+    NumberRange,
+    /// A divisor is zero.
+    DivideByZero,
+    /// A split at a place before the first byte, or behind the last.
+    SplitRange,
+    /// A number is padded to a negative size, to over 520 bytes, or to fewer bytes than it has.
+    PadSize,
+    /// An element would have over 520 bytes.
+    Oversize,
+    /// Elements that are combined byte by byte have different lengths.
+    LengthDiffers,
+    /// The transaction has no input, or no output, at an index.
+    IndexRange,
+    /// A signature that isn't empty fails its check.
+    NullFail,
+    /// A signature or a key isn't well formed.
+    Malformed,
+    /// The transaction's lock time isn't late enough, or doesn't count.
+    LockTime,
+    /// The spent output isn't old enough, or its age doesn't count.
+    Age,
 }
 
 /// Why the machine refuses.
@@ -34,6 +56,40 @@ pub enum MachineCause {
     Shared(Cause),
     /// An opcode doesn't find its operands.
     Underflow,
-    /// An executed opcode that has no meaning.
+    /// An executed opcode that has no meaning, or one that may stand nowhere.
     BadOpcode,
+    /// An opcode that the specification switched off.
+    Disabled,
+    /// A condition that is open at the end of a script, or an opcode of conditions where none is open.
+    Unbalanced,
+    /// More than one element is left at the end of the spend.
+    NotClean,
+    /// The unlocking script has an opcode that is no push.
+    NotPushOnly,
+    /// The redeem script isn't the one whose hash is locked.
+    HashDiffers,
+    /// A script has more than 201 counted opcodes.
+    OpLimit,
+    /// Both stacks together have more than 1,000 elements.
+    StackLimit,
+    /// A script has more than 10,000 bytes.
+    ScriptSize,
+    /// A push has more than 520 bytes.
+    PushSize,
+    /// An executed push isn't the shortest one for its element.
+    NotMinimal,
+    /// The number of keys is outside 0 to 20, or that of signatures outside 0 to the number of keys.
+    KeyCount,
+    /// The dummy element of a multisignature check isn't empty.
+    CheckBits,
+    /// RETURN was executed.
+    Returned,
+    /// The alternate stack is empty.
+    AltEmpty,
+    /// The top of the stack is false at the end of a script.
+    EndFalse,
+    /// The stack is empty at the end of a script.
+    EndEmpty,
+    /// The length or the bytes of a push are cut off.
+    Truncated,
 }

@@ -3,23 +3,25 @@
 
 pub mod element;
 pub mod fault;
+pub mod look;
 pub mod memory;
 pub mod number;
-pub mod operation;
 pub mod outside;
 pub mod place;
 pub mod real;
 pub mod sure;
+pub mod width;
 
 pub use element::Element;
 pub use fault::{Cause, MachineCause, Memory};
+pub use look::{Look0, LookAt};
 pub use memory::{MemorySink, MemoryStore};
 pub use number::{read_number, truth, write_number};
-pub use operation::num_equal;
 pub use outside::{Sink, SinkFailed, Store, StoreStop};
 pub use place::{Slot, Span};
 pub use real::{FileStore, StreamSink};
 pub use sure::{SureSink, SureStore};
+pub use width::{of_width, shortest};
 
 #[cfg(test)]
 mod number_tests;

@@ -1,7 +1,8 @@
 //! Script numbers and truth values.
 
-ghost use Rattle.std.specs.Prelude.{◌≡◌, ◌<◌, ◌≤◌, ◌*◌, ◌^◌, ◌<ℤ◌, negsuc, length, ℕ, ℤ, List, Some, unsigned_abs};
+ghost use Rattle.std.specs.Prelude.{◌≡◌, ◌<◌, ◌≤◌, ◌*◌, ◌^◌, ◌<ℤ◌, negsuc, length, ℕ, ℤ, List, Some, unsigned_abs, if◌then◌else◌};
 ghost use Rattle.arrayvec.specs.ArrayVec.{array_vec_len};
+ghost use Rattle.cash_base.specs.Element.{IsElement};
 ghost use Rattle.cash_base.specs.Number;
 ghost use Rattle.cash_base.specs.Number.{number_of, minimal_bytes, truth_of, with_sign, IsBytes};
 
@@ -50,8 +51,9 @@ fn magnitude(e: &[u8]) -> u64
     }
 }
 
+/// Whether the highest bit of the last byte is set.
 #[tactic(auto, using(crate::proofs::Reading::sign_last))]
-fn has_sign(e: &[u8]) -> bool
+pub(crate) fn has_sign(e: &[u8]) -> bool
     ensures { result ≡ Number.has_sign e.now }
 {
     match e {
@@ -61,6 +63,7 @@ fn has_sign(e: &[u8]) -> bool
 }
 
 /// The one minimal element of a number. It takes no memory.
+#[tactic(auto, using(crate::proofs::Widths::with_sign_longer))]
 pub fn write_number(n: i64) -> Element
     requires { negsuc 9223372036854775807 <ℤ n }
     ensures { result.items ≡ minimal_bytes n }
@@ -85,17 +88,25 @@ fn digits(n: u64) -> Element
     digits
 }
 
+/// The highest bit of a byte, where there is a sign.
+fn sign_bit(negative: bool) -> u8
+    ensures { result ≡ (if negative then 128 else 0) }
+{
+    if negative { 128 } else { 0 }
+}
+
 /// Puts the sign into the highest bit of the last byte, or behind it where that bit is taken.
-#[tactic(auto, using(crate::proofs::Writing::sign_in, crate::proofs::Writing::sign_behind))]
-fn signed(mut digits: Element, negative: bool) -> Element
-    requires { array_vec_len digits ≤ 8 }
+#[tactic(auto, using(crate::proofs::Writing::sign_in_top, crate::proofs::Writing::sign_behind_top, crate::proofs::Widths::room_behind))]
+pub(crate) fn signed(mut digits: Element, negative: bool) -> Element
+    requires { length (with_sign negative digits.items) ≤ 520 }
     ensures { result.items ≡ with_sign negative digits.items }
 {
-    let sign = if negative { 128 } else { 0 };
+    let sign = sign_bit(negative);
     let Some(top) = digits.pop() else {
         return digits;
     };
-    if top < 128 {
+    let has_room = top < 128;
+    if has_room {
         digits.push(top + sign);
     } else {
         digits.push(top);
@@ -127,4 +138,9 @@ pub fn number_of_written()
 /// The minimal bytes of the number of `e` are `e`; the number is above -(2^63) and below 2^63.
 pub fn written_of_number()
     ensures { (e : List ℕ) (n : ℤ) → IsBytes e → number_of e ≡ Some n → (minimal_bytes n ≡ e) × (unsigned_abs n < 2 ^ 63) }
+{}
+
+/// The minimal bytes of any number are an element.
+pub fn written_is_element()
+    ensures { (n : ℤ) → IsElement (minimal_bytes n) }
 {}

@@ -1,4 +1,4 @@
-use crate::{Cause, num_equal, read_number, truth, write_number};
+use crate::{of_width, read_number, shortest, truth, write_number};
 
 // The numbers and their elements, from the Bitcoin Cash specification's rules on script numbers.
 const NUMBERS: [(i64, &[u8]); 16] = [
@@ -70,10 +70,34 @@ fn truth_of_elements(rt: HostRuntime) {
     }
 }
 
+// The shortest form of an element, and its form of so many bytes.
 #[test]
-fn comparing_numbers(rt: HostRuntime) {
-    assert!(rt; matches!(num_equal(&[5], &[5]), Ok(e) if e.as_slice() == [1].as_slice()));
-    assert!(rt; matches!(num_equal(&[5], &[0x85]), Ok(e) if e.is_empty()));
-    assert!(rt; matches!(num_equal(&[0x80], &[5]), Err(Cause::NotANumber)));
-    assert!(rt; matches!(num_equal(&[5], &[5, 0]), Err(Cause::NotANumber)));
+fn widths(rt: HostRuntime) {
+    let elements: [(&[u8], &[u8], usize, &[u8]); 9] = [
+        (&[], &[], 2, &[0x00, 0x00]),
+        (&[0x80], &[], 1, &[0x00]),
+        (&[0x00, 0x80], &[], 0, &[]),
+        (&[0x01, 0x00], &[0x01], 3, &[0x01, 0x00, 0x00]),
+        (&[0x81], &[0x81], 4, &[0x01, 0x00, 0x00, 0x80]),
+        (&[0x01, 0x00, 0x80], &[0x81], 1, &[0x81]),
+        (&[0xff, 0x00, 0x00], &[0xff, 0x00], 2, &[0xff, 0x00]),
+        (&[0xff, 0x00, 0x80], &[0xff, 0x80], 3, &[0xff, 0x00, 0x80]),
+        (
+            &[0x01, 0x02, 0x03, 0x04, 0x05, 0x06, 0x07, 0x08, 0x89],
+            &[0x01, 0x02, 0x03, 0x04, 0x05, 0x06, 0x07, 0x08, 0x89],
+            10,
+            &[0x01, 0x02, 0x03, 0x04, 0x05, 0x06, 0x07, 0x08, 0x09, 0x80],
+        ),
+    ];
+    for (bytes, short, width, wide) in elements {
+        assert!(rt; bytes.len() <= 520);
+        let least = shortest(bytes);
+        assert_eq!(rt; least.as_slice(), short, "the shortest form of {bytes:?}");
+        assert!(rt; least.len() <= width && width <= 520);
+        assert_eq!(rt;
+            of_width(bytes, width).as_slice(),
+            wide,
+            "{width} bytes of {bytes:?}"
+        );
+    }
 }

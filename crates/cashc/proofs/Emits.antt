@@ -1,6 +1,6 @@
 -- Emitted code leaves the values of expressions, piece by piece.
 use Rattle.std.proofs.Common.{◌≡◌, ℕ, ◌+◌, ◌*◌, ◌^◌, ◌<◌, List, [], ◌∷◌, ◌++◌, length, get_or, Result, Ok, Err, Some, ℤ, pos, refl, sym, ap, ◌∙◌, subst, arith, append_assoc, true}
-use Rattle.std.specs.Prelude.{slice_get, slice_index_or}
+use Rattle.std.specs.Prelude.{slice_get, slice_index_or, IsTrue}
 use Rattle.std.proofs.lemmas.Option.{slice_get_within, slice_get-get_or}
 use Rattle.std.proofs.lemmas.List.{get_or-append-add, length-append}
 use Rattle.arrayvec.specs.ArrayVec.{ArrayVec}
@@ -9,15 +9,19 @@ use Rattle.cash_base.specs.declared.place.Span.{Span}
 use Rattle.cash_base.specs.declared.fault.Cause.{Cause}
 use Rattle.cash_base.specs.Failing.{◌>>=◌}
 use Rattle.cash_base.specs.Number.{minimal_bytes, number_of}
-use Rattle.cash_base.specs.NumEqual.{num_equal, operand_number, number_or_cause}
+use Rattle.element_ops.specs.declared.op.Op2.TheVariants.{NumEqual}
+use Rattle.element_ops.specs.Operand.{operand_number, number_or_cause}
+use Rattle.element_ops.specs.Operation.{result2}
 use Rattle.cash_base.proofs.Laws.{number_of-minimal_bytes}
 use Rattle.cash_tree.specs.declared.ExprKind.TheOpen.{ExprKind-F}
 use Rattle.cash_tree.specs.declared.BinaryOp.{BinaryOp}
 use Rattle.cash_tree.specs.declared.BinaryOp.TheVariants.{Equal}
 use Rattle.source_meaning.specs.Meaning.{Env, Value, kind_value, at_span}
+use Rattle.source_meaning.specs.Runnable.{has_meaning}
 use Rattle.source_meaning.specs.declared.outcome.Failure as source
-use Rattle.bch_vm.specs.declared.instr.Instr.{Instr}
-use Rattle.bch_vm.specs.declared.instr.Instr.TheVariants.{Push, Do}
+use Rattle.script_codec.specs.declared.instr.Instr.{Instr}
+use Rattle.script_codec.specs.declared.instr.Instr.TheVariants.{Push, Do}
+use Rattle.script_codec.specs.Spelling.{is_instruction, are_instructions}
 use Rattle.bch_vm.specs.declared.machine.Failure.{Failure}
 use Rattle.bch_vm.specs.Stack.{Stack, shared}
 use Rattle.bch_vm.specs.Opcode.{copied_at, element_or_underflow, picked}
@@ -26,7 +30,6 @@ use Rattle.bch_vm.proofs.Runs.{run_append}
 use Rattle.cashc.specs.declared.emission.Emitter.{Emitter}
 use Rattle.std.specs.Prelude.{◌&&◌}
 use Rattle.std.proofs.lemmas.Bool.{and_from}
-use Rattle.cashc.specs.Spelling.{is_instruction, are_instructions}
 use Rattle.cashc.specs.Emission.{Leaves, Follows, Emits}
 
 abbrev pub opcode : ℕ → Instr
@@ -97,23 +100,32 @@ compared : (below : Stack) (at : ℕ) (span : Span) (r : Result (List ℕ) Cause
 compared below at span (Ok e) = (at + 1, refl)
 compared below at span (Err cause) = (_, refl)
 
-follows_binary : (params depth : ℕ) (op : BinaryOp) (a b : List Instr) (left right : Value) (span : Span) → Follows params depth a left → Follows params (depth + 1) b right → Follows params depth (a ++ (b ++ opcode 0x9c ∷ [])) (kind_value (ExprKind-F.Binary op left right) span)
-follows_binary params depth Equal a b left right span first second = record {
+follows_equal : (params depth : ℕ) (a b : List Instr) (left right : Value) (span : Span) → Follows params depth a left → Follows params (depth + 1) b right → Follows params depth (a ++ (b ++ opcode 0x9c ∷ [])) (kind_value (ExprKind-F.Binary Equal left right) span)
+follows_equal params depth a b left right span first second = record {
   runs = λ operands args env at d n holds.
       let below = operands ++ args in
-      let last = λ (x y : List ℕ) (k : ℕ). compared below k span (num_equal x y) in
+      let last = λ (x y : List ℕ) (k : ℕ). compared below k span (result2 NumEqual x y) in
       let further = λ (x : List ℕ) (k : ℕ).
       let d' : length (x ∷ operands) ≡ depth + 1 = omega (arith, d) in
-      subst (λ r. Leaves below (right env >>= λ y. at_span span (num_equal x y)) r) (sym (run_append b (opcode 0x9c ∷ []) (state (x ∷ below) k)))
-      (after_part (x ∷ below) (opcode 0x9c ∷ []) (right env) (run b (state (x ∷ below) k)) (λ y. at_span span (num_equal x y)) below (second.runs (x ∷ operands) args env k d' n holds) (last x)) in
+      subst (λ r. Leaves below (right env >>= λ y. at_span span (result2 NumEqual x y)) r) (sym (run_append b (opcode 0x9c ∷ []) (state (x ∷ below) k)))
+      (after_part (x ∷ below) (opcode 0x9c ∷ []) (right env) (run b (state (x ∷ below) k)) (λ y. at_span span (result2 NumEqual x y)) below (second.runs (x ∷ operands) args env k d' n holds) (last x)) in
       subst (λ r. Leaves below (kind_value (ExprKind-F.Binary Equal left right) span env) r) (sym (run_append a (b ++ opcode 0x9c ∷ []) (state below at)))
-      (after_part below (b ++ opcode 0x9c ∷ []) (left env) (run a (state below at)) (λ x. right env >>= λ y. at_span span (num_equal x y)) below (first.runs operands args env at d n holds) further);
+      (after_part below (b ++ opcode 0x9c ∷ []) (left env) (run a (state below at)) (λ x. right env >>= λ y. at_span span (result2 NumEqual x y)) below (first.runs operands args env at d n holds) further);
 }
 
-pub emits_binary : (old mid last new : Emitter) (depth : ℕ) (op : BinaryOp) (left right : Value) (span : Span) → Emits old mid depth left → Emits mid last (depth + 1) right → new.code.items ≡ last.code.items ++ opcode 0x9c ∷ [] → new.params ≡ last.params → Emits old new depth (kind_value (ExprKind-F.Binary op left right) span)
-emits_binary old mid last new depth op left right span first second grown same = record {
+emits_equal : (old mid last new : Emitter) (depth : ℕ) (left right : Value) (span : Span) → Emits old mid depth left → Emits mid last (depth + 1) right → new.code.items ≡ last.code.items ++ opcode 0x9c ∷ [] → new.params ≡ last.params → Emits old new depth (kind_value (ExprKind-F.Binary Equal left right) span)
+emits_equal old mid last new depth left right span first second grown same = record {
   rows = first.rows ++ (second.rows ++ opcode 0x9c ∷ []);
   grown = grown ∙ ap (λ l. l ++ opcode 0x9c ∷ []) (second.grown ∙ ap (λ l. l ++ second.rows) first.grown) ∙ ap (λ l. l ++ opcode 0x9c ∷ []) (append_assoc old.code.items first.rows second.rows) ∙ append_assoc old.code.items (first.rows ++ second.rows) _ ∙ ap (λ l. old.code.items ++ l) (append_assoc first.rows second.rows _);
   same = same ∙ second.same ∙ first.same;
-  follows = follows_binary old.params depth op first.rows second.rows left right span first.follows (subst (λ n. Follows n (depth + 1) second.rows right) first.same second.follows);
+  follows = follows_equal old.params depth first.rows second.rows left right span first.follows (subst (λ n. Follows n (depth + 1) second.rows right) first.same second.follows);
 }
+
+-- so far only `==` can be emitted
+only_equal : (op : BinaryOp) → IsTrue (has_meaning op) → op ≡ Equal
+only_equal Equal known = refl
+only_equal _ known = cc
+
+pub emits_binary : (old mid last new : Emitter) (depth : ℕ) (op : BinaryOp) (left right : Value) (span : Span) → IsTrue (has_meaning op) → Emits old mid depth left → Emits mid last (depth + 1) right → new.code.items ≡ last.code.items ++ opcode 0x9c ∷ [] → new.params ≡ last.params → Emits old new depth (kind_value (ExprKind-F.Binary op left right) span)
+emits_binary old mid last new depth op left right span known first second grown same =
+    subst (λ o. Emits old new depth (kind_value (ExprKind-F.Binary o left right) span)) (sym (only_equal op known)) (emits_equal old mid last new depth left right span first second grown same)

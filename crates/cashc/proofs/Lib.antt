@@ -3,6 +3,6 @@ pub mod Decided
 pub mod Emits
 pub mod FormAnswer
 pub mod FormShape
+pub mod SourceTokens
 pub mod FurtherParams
-pub mod TokenSpelling
 pub mod Told

@@ -4,12 +4,12 @@ use Rattle.cash_base.specs.declared.place.Slot.{Slot}
 use Rattle.cash_base.specs.declared.place.Span.{Span}
 use Rattle.cash_tree.specs.declared.Ty.{Ty}
 use Rattle.cash_tree.specs.declared.Contract.{Contract}
-use Rattle.bch_vm.specs.declared.instr.Instr.{Instr}
+use Rattle.script_codec.specs.declared.instr.Instr.{Instr}
+use Rattle.script_codec.specs.Spelling.{are_instructions}
 use Rattle.cashc.specs.declared.compile.Refusal.{Refusal}
 use Rattle.cashc.specs.declared.compile.Refusal.TheVariants.{SourceTooLong, NotBuilt, Memory}
 use Rattle.cashc.specs.Form.{max_source_len, IsOfForm}
 use Rattle.cashc.specs.Decides.{DecidesByRun}
-use Rattle.cashc.specs.Spelling.{are_instructions}
 
 -- the source stands for a contract that the code decides, and each instruction of the code has its spelling
 abbrev pub IsCompiled : List ℕ → List Instr → Type 0

@@ -1,15 +1,16 @@
 -- What correct code is: the machine decides of its stack as the source's run does of its arguments.
-use Rattle.std.specs.Prelude.{◌≡◌, ℕ, ◌≤◌, Bool, true, false, List, [], ◌∷◌, length, Result, Ok, Err}
+use Rattle.std.specs.Prelude.{◌≡◌, ℕ, Bool, true, false, List, [], ◌∷◌, length, Result, Ok, Err}
 use Rattle.std.specs.List.{AllByRecursion}
 use Rattle.cash_base.specs.declared.place.Slot.{Slot}
-use Rattle.cash_base.specs.Number.{truth_of, IsBytes}
+use Rattle.cash_base.specs.Element.{IsElement}
+use Rattle.cash_base.specs.Number.{truth_of}
 use Rattle.cash_tree.specs.declared.Ty.{Ty}
 use Rattle.cash_tree.specs.declared.Contract.{Contract}
 use Rattle.cash_tree.specs.declared.Function.{Function}
 use Rattle.source_meaning.specs.declared.outcome.SourceOutcome.{SourceOutcome}
 use Rattle.source_meaning.specs.declared.outcome.SourceOutcome.TheVariants.{Met, Failed}
 use Rattle.source_meaning.specs.Meaning.{source_outcome}
-use Rattle.bch_vm.specs.declared.instr.Instr.{Instr}
+use Rattle.script_codec.specs.declared.instr.Instr.{Instr}
 use Rattle.bch_vm.specs.declared.machine.Failure.{Failure}
 use Rattle.bch_vm.specs.Stack.{Stack}
 use Rattle.bch_vm.specs.Script.{run_outcome}
@@ -28,11 +29,6 @@ FailsOrEndsFalse (Ok stack) = EndsIn false (Ok stack)
 abbrev pub Agrees : SourceOutcome → Result Stack Failure → Type 0
 Agrees Met outcome = EndsIn true outcome
 Agrees (Failed span cause) outcome = FailsOrEndsFalse outcome
-
--- at most 520 bytes
-pub record IsElement (e : List ℕ) : Type 0 where
-  pub size : length e ≤ 520
-  pub bytes : IsBytes e
 
 -- The contract has one function and no constructor parameters, and for every list of argument elements of the right
 -- count, the first on top, the run of the code agrees with the run of the source.

@@ -10,7 +10,7 @@ use Rattle.cash_tree.specs.declared.Expr.{Expr}
 use Rattle.source_meaning.specs.declared.outcome.Failure as source
 use Rattle.source_meaning.specs.Meaning.{Env, Value}
 use Rattle.source_meaning.specs.Runnable.{HaveSlotsFrom, IsRunnable}
-use Rattle.bch_vm.specs.declared.instr.Instr.{Instr}
+use Rattle.script_codec.specs.declared.instr.Instr.{Instr}
 use Rattle.bch_vm.specs.declared.machine.Failure.{Failure}
 use Rattle.bch_vm.specs.Stack.{Stack}
 use Rattle.bch_vm.specs.Script.{State, state, run}

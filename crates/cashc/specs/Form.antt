@@ -20,7 +20,7 @@ use Rattle.cash_tree.specs.declared.Expr.{Expr}
 use Rattle.cash_tree.specs.declared.ExprKind.{ExprKind}
 use Rattle.cash_tree.specs.declared.ExprKind.TheVariants as nodes
 use Rattle.cash_tree.specs.declared.BinaryOp.TheVariants.{Equal}
-use Rattle.cashc.specs.Tokens.{Token, Spells}
+use Rattle.cashc.specs.Tokens.{Token, source_tokens}
 use Rattle.cashc.specs.Words.{is_text, is_name, number_of}
 
 infixl 10 ◌>>=◌
@@ -77,7 +77,7 @@ token_at text tokens = do
 abbrev pub name_at : List Token → Option (Token × List Token)
 name_at tokens = do
   t ← first tokens
-  if is_name t.0.text then Some t else None
+  if is_name t.0.kind t.0.text then Some t else None
 
 -- the name of a parameter
 abbrev pub param_at : List Token → Option (Token × List Token)
@@ -183,9 +183,15 @@ contract_of tokens = do
 abbrev pub max_source_len : ℕ
 max_source_len = 65536
 
+-- the contract that the tokens of a source stand for
+abbrev pub contract_in : List ℕ → Option (Contract Slot Ty)
+contract_in source = do
+  tokens ← source_tokens source
+  contract_of tokens
+
 -- the source is of the form, and stands for the contract
 abbrev pub IsOfForm : List ℕ → Contract Slot Ty → Type 0
-IsOfForm source c = (length source ≤ max_source_len) × ((tokens : List Token) × Spells 0 tokens source × (contract_of tokens ≡ Some c))
+IsOfForm source c = (length source ≤ max_source_len) × (contract_in source ≡ Some c)
 
 -- ---- the shape of the contract
 

@@ -4,7 +4,6 @@ pub mod Emission
 pub mod Form
 pub mod Given
 pub mod Seen
-pub mod Spelling
 pub mod Tokens
 pub mod TopCall
 pub mod Words

@@ -1,13 +1,14 @@
 -- What the program promises: what `compile FILE` writes, status by status.
-use Rattle.std.specs.Prelude.{◌≡◌, ℕ, ◌<◌, ◌≤◌, ◌⊎◌, List, [], ◌∷◌, length, codes, Option, Some, None, IfSome, IsSomeAnd, if◌then◌else◌, string_bytes}
+use Rattle.std.specs.Prelude.{◌≡◌, ℕ, ◌<◌, ◌≤◌, ◌⊎◌, List, [], ◌∷◌, ◌++◌, length, codes, Option, Some, None, IfSome, IsSomeAnd, if◌then◌else◌, string_bytes}
 use Rattle.std.specs.Str.{bytes_eq}
 use Rattle.std.specs.Global.{Global}
+use Rattle.hex.specs.Hex.{encode_lower}
 use Rattle.std.specs.declared.string.String.{String}
 use Rattle.cash_base.specs.Outside.{Files, file_named, Rose, Grew, GrewByFront}
-use Rattle.bch_vm.specs.declared.instr.Instr.{Instr}
+use Rattle.script_codec.specs.declared.instr.Instr.{Instr}
+use Rattle.script_codec.specs.Spelling.{spellings}
 use Rattle.cashc.specs.Form.{max_source_len}
 use Rattle.cashc.specs.Compile.{IsCompiled, IsOfNoForm}
-use Rattle.cashc.specs.Spelling.{code_line}
 
 -- ---- the words
 
@@ -20,6 +21,10 @@ named_source (command ∷ file ∷ []) = if bytes_eq (string_bytes command) (cod
 named_source _ = None
 
 -- ---- the texts
+
+-- the line that shows some instructions
+abbrev pub code_line : List Instr → List ℕ
+code_line code = codes "code " ++ encode_lower (spellings code) ++ codes "\n"
 
 abbrev pub source_too_long : List ℕ
 source_too_long = codes "refused SourceTooLong\n"

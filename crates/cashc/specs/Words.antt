@@ -1,9 +1,11 @@
 -- The words and numbers of the form. The source of the rules is the CashScript 0.7 grammar.
-use Rattle.std.specs.Prelude.{ℕ, ◌+◌, ◌*◌, ◌-◌, ◌==◌, nat_eq, nat_le, Bool, false, not, ◌&&◌, ◌||◌, List, [], ◌∷◌, drop, Option, codes, position}
+use Rattle.std.specs.Prelude.{ℕ, ◌+◌, ◌*◌, ◌-◌, nat_eq, nat_le, Bool, false, not, ◌&&◌, ◌||◌, List, [], ◌∷◌, drop, Option, codes, position}
 use Rattle.std.specs.List.{list_any, starts_with}
 use Rattle.std.specs.Str.{bytes_eq}
-use Rattle.std.specs.Char.{is_ascii_alphabetic, is_ascii_digit}
+use Rattle.std.specs.Char.{is_ascii_digit}
 use Rattle.std.specs.Int.{is_in_range}
+use Rattle.cash_tree.specs.declared.TokenKind.{TokenKind}
+use Rattle.cash_tree.specs.declared.TokenKind.TheVariants.{Word}
 
 -- a text is the same bytes as another
 abbrev pub is_text : List ℕ → List ℕ → Bool
@@ -37,12 +39,10 @@ is_sized_bytes text = starts_with nat_eq text (codes "bytes") && is_size (drop 5
 abbrev pub is_reserved : List ℕ → Bool
 is_reserved text = list_any (is_text text) reserved_words || is_sized_bytes text
 
--- A name is a word that isn't reserved, and isn't `date`, with which a date begins. A token that begins with a letter
--- or `_` is a word.
-abbrev pub is_name : List ℕ → Bool
-is_name [] = false
-is_name (byte ∷ more) =
-    (is_ascii_alphabetic byte || byte == 95) && not (is_reserved (byte ∷ more)) && not (is_text (byte ∷ more) (codes "date"))
+-- a name is a word that isn't reserved
+abbrev pub is_name : TokenKind → List ℕ → Bool
+is_name Word text = not (is_reserved text)
+is_name _ text = false
 
 -- the spellings of the numbers from 0 to 16, in order
 abbrev pub numbers : List (List ℕ)

@@ -6,8 +6,8 @@ ghost use Rattle.cashc.specs.Compile.{IsCompiled, IsRefused};
 
 use crate::emission::emit;
 use crate::reading::{MAX_SOURCE_LEN, read_contract};
-use bch_vm::Instr;
 use cash_base::{Memory, Span};
+use script_codec::Instr;
 use std::alloc::{AllocError, Global};
 
 /// Why a source isn't compiled.

@@ -3,15 +3,15 @@
 ghost use Rattle.std.specs.Prelude.{◌≡◌, ◌+◌, ◌*◌, ◌≤◌, ◌<◌, ◌^◌, [], ◌∷◌, ◌++◌, length, pos, true, IsTrue, OnOk, IfOk, replicate};
 ghost use Rattle.cash_tree.specs.declared.ExprKind.TheOpen.{ExprKind-F};
 ghost use Rattle.source_meaning.specs.Meaning.{value_of, kind_value};
-ghost use Rattle.source_meaning.specs.Runnable.{is_runnable, nodes};
-ghost use Rattle.bch_vm.specs.declared.instr.Instr.TheVariants.{Do};
+ghost use Rattle.source_meaning.specs.Runnable.{has_meaning, is_runnable, nodes};
+ghost use Rattle.script_codec.specs.declared.instr.Instr.TheVariants.{Do};
+ghost use Rattle.script_codec.specs.Spelling.{is_instruction, are_instructions};
 ghost use Rattle.cashc.specs.Decides.{DecidesByRun};
-ghost use Rattle.cashc.specs.Spelling.{is_instruction, are_instructions};
 ghost use Rattle.cashc.specs.Emission.{Emits, IsEmittable};
 
-use bch_vm::{Instr, Opcode};
 use cash_base::{Slot, Span, write_number};
 use cash_tree::{BinaryOp, Expr, ExprKind, StmtKind, Ty, TypedContract};
+use script_codec::{Instr, Opcode};
 use std::alloc::{AllocError, Global};
 
 /// The code so far, of a function with so many parameters.
@@ -64,12 +64,14 @@ impl Emitter {
     }
 
     fn operator(&mut self, op: BinaryOp) -> Result<(), AllocError>
+        requires { IsTrue (has_meaning op) }
         ensures code { OnOk result (self.new.code.items ≡ self.old.code.items ++ Do (record { 0 = 0x9c }) ∷ []) }
         ensures params { self.new.params ≡ self.old.params }
         ensures spelled { OnOk result (are_instructions self.new.code.items ≡ are_instructions self.old.code.items) }
     {
         match op {
             BinaryOp::Equal => self.put(Instr::Do(Opcode::NUMEQUAL))?,
+            _ => unreachable!(),
         }
         Ok(())
     }
@@ -91,6 +93,7 @@ impl Emitter {
                 self.operator(*op)?;
                 Ok(())
             }
+            _ => unreachable!(),
         }
     }
 
@@ -116,7 +119,9 @@ pub fn emit(alloc: Global, contract: &TypedContract) -> Result<Vec<Instr>, Alloc
     ensures spelled { IfOk result (λ code. IsTrue (are_instructions code.items)) }
 {
     let function = &contract.functions.as_slice()[0];
-    let StmtKind::Require { value } = &function.body.as_slice()[0].kind;
+    let StmtKind::Require { value } = &function.body.as_slice()[0].kind else {
+        unreachable!()
+    };
     let mut emitter = Emitter {
         code: Vec::new(alloc),
         params: function.params.len(),

@@ -6,7 +6,6 @@ pub mod emission;
 pub mod reading;
 #[cfg(test)]
 mod run_tests;
-pub mod script_codec;
 #[cfg(test)]
 mod tests;
 pub mod top_call;

@@ -22,10 +22,10 @@ pub const MAX_SOURCE_LEN: usize = 65_536;
 
 /// The contract that a source stands for, or `None` where it isn't of the form.
 ///
-/// A source of the form has at most [`MAX_SOURCE_LEN`] bytes and no comment, and its tokens are
+/// A source of the form has at most [`MAX_SOURCE_LEN`] bytes, is UTF-8, and its tokens are
 /// `contract NAME ( ) { function NAME ( PARAMS ) { require ( OPERAND == OPERAND ) ; } }`. PARAMS is up to 16 times
 /// `int NAME`, with commas between, and their names differ. An OPERAND is the name of a parameter, or a number from 0
-/// to 16 in decimal digits without a leading zero. A NAME is a word that isn't reserved and isn't `date`. Tokens,
+/// to 16 in decimal digits without a leading zero. A NAME is a word that isn't reserved. Tokens,
 /// words and what is reserved are those of the CashScript 0.7 grammar.
 ///
 /// The parameters have the slots from 0 in their order and the type Int, as the operands have; the comparison has the

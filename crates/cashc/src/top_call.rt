@@ -1,18 +1,17 @@
 //! The program's top call.
 
 ghost use Rattle.std.specs.Prelude.{◌≡◌, ◌≢◌, ◌⊎◌, ◌≤◌, ℕ, List, None, Some, [], length, string_bytes, option_map, IfOk, IfErr, codes, ◌++◌};
-ghost use Rattle.bch_vm.specs.declared.instr.Instr.{Instr};
+ghost use Rattle.script_codec.specs.declared.instr.Instr.{Instr};
 ghost use Rattle.hex.specs.Hex.{encode_lower};
 ghost use Rattle.cash_base.specs.Outside.{Grew};
 ghost use Rattle.cashc.specs.Form.{max_source_len};
 ghost use Rattle.cashc.specs.Compile.{IsCompiled, IsRefused, IsOfNoForm};
-ghost use Rattle.cashc.specs.Spelling.{code_line};
-ghost use Rattle.cashc.specs.TopCall.{named_source as source_of, usage, not_built, read_failed, out_of_memory, IsLine, IsRefusal, IsMisuse, HasReadCause, Stopped, Tried};
+ghost use Rattle.cashc.specs.TopCall.{named_source as source_of, code_line, usage, not_built, read_failed, out_of_memory, IsLine, IsRefusal, IsMisuse, HasReadCause, Stopped, Tried};
 
 use crate::compile::{Refusal, compile};
 use crate::reading::MAX_SOURCE_LEN;
-use crate::script_codec::encode;
 use cash_base::{Memory, Sink, Store, StoreStop};
+use script_codec::encode;
 use std::alloc::{AllocError, Global};
 
 const USAGE: &str =

@@ -6,7 +6,8 @@ use Rattle.cash_base.specs.declared.place.Span.{Span}
 use Rattle.cash_base.specs.declared.place.Slot.{Slot}
 use Rattle.cash_base.specs.Failing.{◌>>=◌}
 use Rattle.cash_base.specs.Number.{minimal_bytes, truth_of}
-use Rattle.cash_base.specs.NumEqual.{num_equal}
+use Rattle.element_ops.specs.declared.op.Op2.TheVariants.{NumEqual}
+use Rattle.element_ops.specs.Operation.{result2}
 use Rattle.cash_tree.specs.declared.Ty.{Ty}
 use Rattle.cash_tree.specs.declared.Param.{Param}
 use Rattle.cash_tree.specs.declared.Contract.{Contract}
@@ -46,13 +47,16 @@ abbrev pub at_span : {A : Type 0} → Span → Result A Cause → Result A Failu
 at_span span (Ok x) = Ok x
 at_span span (Err cause) = fails span cause
 
+-- The other operators have no meaning yet, and nothing reads what stands here for them: `is_runnable` keeps them out.
 abbrev pub binary_value : BinaryOp → List ℕ → List ℕ → Result (List ℕ) Cause
-binary_value Equal a b = num_equal a b
+binary_value Equal a b = result2 NumEqual a b
+binary_value _ a b = Err CheckFailed
 
 abbrev pub Value : Type 0
 Value = Env → Result (List ℕ) Failure
 
 -- Parts are evaluated from left to right, and the first that fails fails the whole.
+-- The other forms have no meaning yet, and nothing reads what stands here for them: `is_runnable` keeps them out.
 abbrev pub kind_value : ExprKind-F Slot Ty (Span → Value) Value → Span → Value
 kind_value (ExprKind-F.Int digits unit) span env = Ok (minimal_bytes (pos (digits * unit)))
 kind_value (ExprKind-F.Name slot) span env = Ok (env slot)
@@ -60,6 +64,7 @@ kind_value (ExprKind-F.Binary op left right) span env = do
   a ← left env
   b ← right env
   at_span span (binary_value op a b)
+kind_value _ span env = fails span CheckFailed
 
 abbrev pub node_value : Expr-F Slot Ty (Span → Value) Value → Value
 node_value e env = e.kind e.span env
@@ -72,10 +77,12 @@ value_of = fold-Expr Slot Ty (Span → Value) Value kind_value node_value
 abbrev pub checked : Span → List ℕ → Env → Result Env Failure
 checked span e env = if truth_of e then Ok env else fails span CheckFailed
 
+-- The other forms have no meaning yet, and nothing reads what stands here for them: `IsRunnableKind` keeps them out.
 abbrev pub env_after_kind : StmtKind Slot Ty → Span → Env → Result Env Failure
 env_after_kind (Require value) span env = do
   e ← value_of value env
   checked span e env
+env_after_kind _ span env = fails span CheckFailed
 
 -- what a statement leaves in the slots, or the first failure
 abbrev pub env_after : Stmt Slot Ty → Env → Result Env Failure

@@ -1,5 +1,5 @@
 -- Which contracts can be run, and what a run keeps on its stack.
-use Rattle.std.specs.Prelude.{◌≡◌, ℕ, ◌+◌, ◌*◌, ◌^◌, ◌≤◌, Bool, ◌&&◌, nat_lt, List, [], ◌∷◌, length, slice_get, slice_index_or, Some, Result, Ok, Err, IsTrue, All}
+use Rattle.std.specs.Prelude.{◌≡◌, ℕ, ◌+◌, ◌*◌, ◌^◌, ◌≤◌, Bool, true, false, ◌&&◌, nat_lt, List, [], ◌∷◌, length, slice_get, slice_index_or, Some, Result, Ok, Err, IsTrue, All}
 use Rattle.cash_base.specs.declared.place.Slot.{Slot}
 use Rattle.cash_base.specs.declared.place.Span.{Span}
 use Rattle.cash_tree.specs.declared.Ty.{Ty}
@@ -10,6 +10,7 @@ use Rattle.cash_tree.specs.declared.Stmt.{Stmt}
 use Rattle.cash_tree.specs.declared.StmtKind.{StmtKind}
 use Rattle.cash_tree.specs.declared.StmtKind.TheVariants.{Require}
 use Rattle.cash_tree.specs.declared.BinaryOp.{BinaryOp}
+use Rattle.cash_tree.specs.declared.BinaryOp.TheVariants.{Equal}
 use Rattle.cash_tree.specs.declared.Expr.{Expr}
 use Rattle.cash_tree.specs.declared.ExprKind.TheOpen.{ExprKind-F, Expr-F}
 use Rattle.cash_tree.specs.declared.ExprKind.TheFolds.{fold-Expr}
@@ -26,11 +27,17 @@ most_nodes = 1000
 abbrev pub Test : Type 0
 Test = ℕ → Bool
 
--- literals are script numbers, and names are those of parameters
+-- the operators that have a meaning so far
+abbrev pub has_meaning : BinaryOp → Bool
+has_meaning Equal = true
+has_meaning _ = false
+
+-- Literals are script numbers, and names are those of parameters. The forms that have no meaning yet can't be run.
 abbrev pub kind_test : ExprKind-F Slot Ty Test Test → Test
 kind_test (ExprKind-F.Int digits unit) slots = nat_lt (digits * unit) (2 ^ 63)
 kind_test (ExprKind-F.Name slot) slots = nat_lt slot.0 slots
-kind_test (ExprKind-F.Binary op left right) slots = left slots && right slots
+kind_test (ExprKind-F.Binary op left right) slots = has_meaning op && left slots && right slots
+kind_test _ slots = false
 
 abbrev pub node_test : Expr-F Slot Ty Test Test → Test
 node_test e = e.kind
@@ -42,11 +49,12 @@ abbrev pub kind_nodes : ExprKind-F Slot Ty ℕ ℕ → ℕ
 kind_nodes (ExprKind-F.Int digits unit) = 1
 kind_nodes (ExprKind-F.Name slot) = 1
 kind_nodes (ExprKind-F.Binary op left right) = left + right + 1
+kind_nodes _ = 1
 
 abbrev pub node_nodes : Expr-F Slot Ty ℕ ℕ → ℕ
 node_nodes e = e.kind
 
--- how many nodes an expression has
+-- how many nodes an expression has, where it can be run
 abbrev pub nodes : Expr Slot Ty → ℕ
 nodes = fold-Expr Slot Ty ℕ ℕ kind_nodes node_nodes
 
@@ -57,6 +65,7 @@ pub record IsRunnable (slots : ℕ) (e : Expr Slot Ty) : Type 0 where
 
 abbrev pub IsRunnableKind : ℕ → StmtKind Slot Ty → Type 0
 IsRunnableKind slots (Require value) = IsRunnable slots value
+IsRunnableKind slots _ = ⊥
 
 abbrev pub IsRunnableStatement : ℕ → Stmt Slot Ty → Type 0
 IsRunnableStatement slots statement = IsRunnableKind slots statement.kind

@@ -3,12 +3,13 @@
 ghost use Rattle.std.specs.Prelude.{◌≡◌, ◌+◌, ◌*◌, ◌^◌, ◌≤◌, ◌<◌, length, map, pos, slice_get, All, IsTrue, IfOk, IfErr, IfSome, OnOk, Ok, Err, [], ◌∷◌};
 ghost use Rattle.cash_base.specs.Number.{minimal_bytes, truth_of};
 ghost use Rattle.source_meaning.specs.Meaning.{binary_value, value_of, env_after, env_after_all, source_outcome};
-ghost use Rattle.source_meaning.specs.Runnable.{is_runnable, nodes, IsRunnable, IsRunnableStatement, CanRun, env_of, pushed, combined, top_of};
+ghost use Rattle.source_meaning.specs.Runnable.{has_meaning, is_runnable, nodes, IsRunnable, IsRunnableStatement, CanRun, env_of, pushed, combined, top_of};
 
 use crate::outcome::{Failure, SourceOutcome};
 use cash_base::element::copy_of;
-use cash_base::{Cause, Element, Memory, Slot, Span, num_equal, truth, write_number};
+use cash_base::{Cause, Element, Memory, Slot, Span, truth, write_number};
 use cash_tree::{BinaryOp, Expr, ExprKind, Stmt, StmtKind, Ty, TypedContract};
+use element_ops::{Op2, apply2};
 use std::alloc::Global;
 use std::marker::Model;
 
@@ -104,6 +105,7 @@ impl SourceRoom {
 
     /// Takes the two values on top, of which the upper is the right side, and puts that of the operator on top.
     fn combine(&mut self, op: BinaryOp, span: Span) -> Result<(), Failure>
+        requires meaning { IsTrue (has_meaning op) }
         requires operands { 2 ≤ length self.old }
         requires places { length self.old ≤ 1000 }
         ensures ok { OnOk result (combined op span self.old ≡ Ok self.new) }
@@ -151,6 +153,7 @@ impl SourceRoom {
                 self.combine(*op, e.span)?;
                 Ok(())
             }
+            _ => unreachable!(),
         }
     }
 
@@ -182,6 +185,7 @@ impl SourceRoom {
                 }
                 Ok(())
             }
+            _ => unreachable!(),
         }
     }
 
@@ -225,10 +229,14 @@ impl SourceRoom {
 
 /// The value of an operator on two values.
 fn apply(op: BinaryOp, left: &[u8], right: &[u8]) -> Result<Element, Cause>
+    requires meaning { IsTrue (has_meaning op) }
+    requires left_element { length left.now ≤ 520 }
+    requires right_element { length right.now ≤ 520 }
     ensures value { IfOk result (λ e. binary_value op left.now right.now ≡ Ok e.items) }
     ensures cause { IfErr result (λ cause. binary_value op left.now right.now ≡ Err cause) }
 {
     match op {
-        BinaryOp::Equal => num_equal(left, right),
+        BinaryOp::Equal => apply2(Op2::NumEqual, left, right),
+        _ => unreachable!(),
     }
 }

@@ -53,7 +53,7 @@ fn name<'t, 'a>(tokens: &'t [Token<'a>]) -> Result<(Token<'a>, &'t [Token<'a>]),
     ensures { Gives (λ x. (seen_token x.0, seen x.1.now)) result (name_at (seen tokens.now)) }
 {
     match first(tokens) {
-        Some((token, rest)) if is_name(token.text) => Ok((token, rest)),
+        Some((token, rest)) if is_name(token.kind, token.text) => Ok((token, rest)),
         _ => Err(Stop::NotOfForm),
     }
 }

@@ -4,7 +4,7 @@ use cash_tree::{ExprKind, StmtKind, Ty};
 use std::test::*;
 
 /// Sources, and whether each is of the form.
-const SOURCES: [(&str, bool); 56] = [
+const SOURCES: [(&str, bool); 57] = [
     // parameters
     ("contract S() { function f() { require(0 == 16); } }", true),
     (
@@ -109,8 +109,8 @@ const SOURCES: [(&str, bool); 56] = [
         false,
     ),
     (
-        "contract S() { function f(int date) { require(date == 1); } }",
-        false,
+        "contract date () { function f(int date) { require(date == 1); } }",
+        true,
     ),
     ("contract 1() { function f() { require(1 == 1); } }", false),
     (
@@ -210,7 +210,11 @@ const SOURCES: [(&str, bool); 56] = [
     ),
     // comments, what stands behind the contract, and what is missing
     (
-        "contract S() { function f(int x) { require(x == 1); } } // one",
+        "contract S() { function f(int x) { require(x /* é */ == 1); } } // one",
+        true,
+    ),
+    (
+        "contract S() { function f(int x) { require(x == 1); } } /*/",
         false,
     ),
     (
@@ -300,7 +304,7 @@ fn spans_and_slots(rt: HostRuntime) -> Result<(), Fail> {
     let x = function.params.get(0).ok_or("a parameter")?;
     assert_eq!(rt; x.name, Slot(0));
     assert_eq!(rt; x.place, span(30, 31));
-    assert_eq!(rt; x.ty, Ty::Int);
+    assert!(rt; matches!(x.ty, Ty::Int));
     let y = function.params.get(1).ok_or("a second parameter")?;
     assert_eq!(rt; y.name, Slot(1));
     assert_eq!(rt; y.place, span(37, 38));
@@ -308,15 +312,17 @@ fn spans_and_slots(rt: HostRuntime) -> Result<(), Fail> {
     assert_eq!(rt; function.body.len(), 1);
     let statement = function.body.get(0).ok_or("a statement")?;
     assert_eq!(rt; statement.span, span(42, 58));
-    let StmtKind::Require { value } = &statement.kind;
+    let StmtKind::Require { value } = &statement.kind else {
+        return Err("a require".into());
+    };
     assert_eq!(rt; value.span, span(50, 56));
-    assert_eq!(rt; value.ty, Ty::Bool);
+    assert!(rt; matches!(value.ty, Ty::Bool));
     let ExprKind::Binary(_, left, right) = &value.kind else {
         return Err("a comparison".into());
     };
     assert_eq!(rt; left.get().span, span(50, 51));
     assert!(rt; matches!(left.get().kind, ExprKind::Name(Slot(0))));
-    assert_eq!(rt; left.get().ty, Ty::Int);
+    assert!(rt; matches!(left.get().ty, Ty::Int));
     assert_eq!(rt; right.get().span, span(55, 56));
     assert!(rt; matches!(right.get().kind, ExprKind::Name(Slot(1))));
     Ok(())
@@ -329,7 +335,9 @@ fn numbers_have_their_value(rt: HostRuntime) -> Result<(), Fail> {
     let contract = read.ok_or("it is of the form")?;
     let function = contract.functions.get(0).ok_or("a function")?;
     let statement = function.body.get(0).ok_or("a statement")?;
-    let StmtKind::Require { value } = &statement.kind;
+    let StmtKind::Require { value } = &statement.kind else {
+        return Err("a require".into());
+    };
     let ExprKind::Binary(_, left, right) = &value.kind else {
         return Err("a comparison".into());
     };

@@ -4,6 +4,8 @@ ghost use Rattle.std.specs.Prelude.{◌≡◌, ◌<◌, length, position, IfSome
 ghost use Rattle.std.specs.List.{list_any};
 ghost use Rattle.cashc.specs.Words.{is_text, is_size, is_sized_bytes, is_reserved, is_name, number_of};
 
+use cash_tree::TokenKind;
+
 /// The reserved words, but for `bytesN`.
 const RESERVED_WORDS: [&[u8]; 21] = [
     b"pragma",
@@ -84,14 +86,13 @@ fn is_reserved(text: &[u8]) -> bool
 }
 
 /// Whether a token is a name.
-pub fn is_name(text: &[u8]) -> bool
-    ensures { result ≡ is_name text.now }
+pub fn is_name(kind: TokenKind, text: &[u8]) -> bool
+    ensures { result ≡ is_name kind text.now }
 {
-    let Some(first) = text.first() else {
-        return false;
-    };
-    let is_word = first.is_ascii_alphabetic() || *first == b'_';
-    is_word && !is_reserved(text) && !is_text(text, b"date")
+    match kind {
+        TokenKind::Word => !is_reserved(text),
+        _ => false,
+    }
 }
 
 /// The index of a text among some words.

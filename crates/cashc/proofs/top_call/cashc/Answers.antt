@@ -1,6 +1,5 @@
 use Rattle.std.proofs.Common.{rules, ◌≡◌, ◌∙◌, Some, Err, inl, inr, refl, sym, ap}
-use Rattle.cashc.specs.Spelling.{code_line}
-use Rattle.cashc.specs.TopCall.{named_source, not_built, IsLongSource, HasReadCause}
+use Rattle.cashc.specs.TopCall.{named_source, code_line, not_built, IsLongSource, HasReadCause}
 use Rattle.cashc.proofs.Told.{source_read}
 use Rattle.cashc.proofs.top_call.cashc.Goals as goal
 

@@ -1,5 +1,5 @@
 use Rattle.std.proofs.Common.{◌≡◌, ◌++◌, replicate}
-use Rattle.cashc.specs.Spelling.{are_instructions}
+use Rattle.script_codec.specs.Spelling.{are_instructions}
 use Rattle.cashc.proofs.Emits.{opcode}
 use Rattle.cashc.proofs.emission.Emitter.drop_params.Given as goal
 

@@ -1,0 +1,4 @@
+mod Pairs
+mod Values
+mod Digests
+mod Obeying

@@ -1,0 +1,4 @@
+pub mod Operand
+pub mod Operation
+pub mod Reads
+pub mod Causes

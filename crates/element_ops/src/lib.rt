@@ -1,0 +1,19 @@
+//! The operations on elements that a contract's source and the machine share. None of them takes memory.
+//!
+//! What an operation gives is a table of the crate's `specs`, which the source's meaning and the machine both cite.
+#![tactic(auto)]
+
+mod apply;
+mod bytes;
+mod hashes;
+pub mod laws;
+mod numbers;
+pub mod op;
+mod operand;
+
+pub use apply::{apply1, apply2, apply3};
+pub use bytes::split;
+pub use op::{Op1, Op2, Op3};
+
+#[cfg(test)]
+mod tests;

@@ -1,0 +1,4 @@
+pub mod Seams
+pub mod Sizes
+pub mod Round
+pub mod Only

@@ -1,0 +1,46 @@
+//! Spelling and reading stand for one another.
+
+ghost use Rattle.std.specs.Prelude.{◌≡◌, ℕ, IsTrue, List, [], ◌∷◌, ◌++◌, length, map, drop, Some};
+ghost use Rattle.std.specs.List.{list_all};
+ghost use Rattle.cash_base.specs.Number.{IsBytes};
+ghost use Rattle.script_codec.specs.declared.instr.Instr.{Instr};
+ghost use Rattle.script_codec.specs.Spelling.{is_instruction, are_instructions, spelling, spellings};
+ghost use Rattle.script_codec.specs.Reading.{reading, piece_of, size_behind, size_of, Whole, spelled, instruction, is_minimal, meaning, is_minimal_piece};
+
+/// Reading what was encoded gives the same instructions.
+pub fn reading_of_encoded()
+    ensures { (code : List Instr) → IsTrue (are_instructions code)
+        → map meaning (reading (spellings code)) ≡ map Some code }
+{}
+
+/// Each instruction that is read of what was encoded is minimally spelled.
+pub fn encoded_is_minimal()
+    ensures { (code : List Instr) → IsTrue (are_instructions code)
+        → IsTrue (list_all is_minimal_piece (reading (spellings code))) }
+{}
+
+/// No other bytes whose pushes are all minimal are read as the same instructions.
+pub fn no_other_spelling()
+    ensures { (code : List Instr) (script : List ℕ) → IsBytes script
+        → IsTrue (list_all is_minimal_piece (reading script)) → map meaning (reading script) ≡ map Some code → script ≡ spellings code }
+{}
+
+/// A reading is the instruction at the front of a script, and the reading of what stands behind that.
+pub fn reading_in_turn()
+    ensures end { reading [] ≡ [] }
+    ensures front { (opcode : ℕ) (behind : List ℕ)
+        → reading (opcode ∷ behind) ≡ piece_of opcode behind ∷ reading (drop (size_behind opcode behind) behind) }
+{}
+
+/// Code in front of other bytes is read as its instructions, and then those bytes are read.
+pub fn reading_behind_encoded()
+    ensures { (code : List Instr) (rest : List ℕ) → IsTrue (are_instructions code)
+        → reading (spellings code ++ rest) ≡ map (λ instr. Whole (spelled instr)) code ++ reading rest }
+{}
+
+/// What the spelling of an instruction is read as stands for the instruction, is minimal, and has as many bytes.
+pub fn meaning_of_spelled()
+    ensures { (instr : Instr) → IsTrue (is_instruction instr)
+        → (instruction (spelled instr) ≡ instr) × IsTrue (is_minimal (spelled instr))
+        × (size_of (spelled instr) ≡ length (spelling instr)) }
+{}

@@ -1,0 +1,18 @@
+//! Instructions as bytes: what the bytes of a script spell, and the minimal spelling of instructions.
+#![tactic(auto)]
+
+pub mod counting;
+pub mod instr;
+pub mod laws;
+pub mod reading;
+pub mod spans;
+pub mod spelling;
+
+pub use counting::counted;
+pub use instr::{Instr, Opcode};
+pub use reading::{CodecFault, RawInstr, next_instr};
+pub use spans::{Mark, Marked, Spanned};
+pub use spelling::encode;
+
+#[cfg(test)]
+mod tests;
