@@ -1,0 +1,4 @@
+pub mod Places
+pub mod Filling
+pub mod Amounts
+pub mod Turned

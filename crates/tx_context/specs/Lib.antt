@@ -1,0 +1,9 @@
+pub mod Transaction
+pub mod Given
+pub mod Limits
+pub mod Refusal
+pub mod Frame
+pub mod Lookup
+pub mod Table
+pub mod Verdict
+pub mod World

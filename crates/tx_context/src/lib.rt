@@ -1,0 +1,22 @@
+//! What the world outside of a contract holds when it is spent: the transaction, and the verdicts on signatures.
+#![tactic(auto)]
+
+pub mod context;
+pub mod frame;
+pub mod look_up;
+pub mod part;
+pub mod signature;
+pub mod verdict;
+
+pub use cash_base::{Look0, LookAt, Memory};
+pub use context::{Context, fill};
+pub use frame::{Frame, FrameFault};
+pub use look_up::{age_met, look_at, look0, time_met};
+pub use part::{Bytecode, ContextInput, ContextOutput, Input, Output};
+pub use signature::{check_many, check_one};
+pub use verdict::{Answer, Kind, TableFault, VerdictRow, Verdicts};
+
+#[cfg(test)]
+mod tests;
+#[cfg(test)]
+mod world_tests;
