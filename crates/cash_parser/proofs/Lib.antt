@@ -1,0 +1,15 @@
+pub mod Fixpoint
+pub mod Steps
+pub mod Begins
+pub mod Sound
+pub mod Unrolled
+pub mod Complete
+pub mod Loops
+pub mod StatementSound
+pub mod StatementComplete
+pub mod StatementLoop
+pub mod FileSound
+pub mod FileComplete
+pub mod FileLoop
+pub mod Small
+pub mod SmallTree

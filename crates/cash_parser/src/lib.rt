@@ -1,0 +1,18 @@
+//! Parses the tokens of a source into a tree.
+#![tactic(auto)]
+
+mod depth;
+mod expressions;
+mod fault;
+mod file;
+mod front;
+mod literals;
+mod nodes;
+mod parsing;
+mod statements;
+#[cfg(test)]
+mod tests;
+mod words;
+
+pub use fault::{DepthRule, ParseFault};
+pub use parsing::{one_tree, parse};
