@@ -1,3 +1,9 @@
 pub mod Stack
 pub mod Opcode
+pub mod Board
 pub mod Script
+pub mod Course
+pub mod Spend
+pub mod Opening
+pub mod Position
+pub mod Status

@@ -1,14 +1,13 @@
--- What each opcode does, as the Bitcoin Cash specification has it. In the comments the top stands right.
+-- What each opcode does to the stack, as the Bitcoin Cash specification has it. In the comments the top stands right.
 use Rattle.std.specs.Prelude.{ℕ, ◌==◌, if◌then◌else◌, List, [], ◌∷◌, ℤ, pos, negsuc, slice_get, Option, Some, None, Result, Ok, Err}
 use Rattle.cash_base.specs.declared.fault.MachineCause.{MachineCause}
 use Rattle.cash_base.specs.declared.fault.MachineCause.TheVariants.{Underflow, BadOpcode}
 use Rattle.cash_base.specs.Failing.{◌>>=◌}
-use Rattle.element_ops.specs.declared.op.Op2.TheVariants.{NumEqual}
+use Rattle.element_ops.specs.declared.op.Op1.TheVariants.{Hash160}
+use Rattle.element_ops.specs.declared.op.Op2.TheVariants.{NumEqual, Equal}
 use Rattle.element_ops.specs.Operand.{operand_number}
-use Rattle.element_ops.specs.Operation.{result2}
-use Rattle.script_codec.specs.declared.instr.Instr.{Instr}
-use Rattle.script_codec.specs.declared.instr.Instr.TheVariants.{Push, Do}
-use Rattle.bch_vm.specs.Stack.{Stack, Action, shared, on_two}
+use Rattle.element_ops.specs.Operation.{result1, result2}
+use Rattle.bch_vm.specs.Stack.{Stack, Action, shared, on_one, on_two}
 
 -- NOP: nothing
 abbrev pub unchanged : Action
@@ -46,21 +45,18 @@ picked stack = do
   taken ← index_taken stack
   copied_at taken.0 taken.1
 
--- the opcodes that have a meaning
+-- the opcodes that have a meaning, but for those of conditions
 abbrev pub opcode_table : List (ℕ × Action)
 opcode_table =
     (0x61, unchanged)
     ∷ (0x77, nipped)
     ∷ (0x79, picked)
+    ∷ (0x87, on_two (result2 Equal))
     ∷ (0x9c, on_two (result2 NumEqual))
+    ∷ (0xa9, on_one (result1 Hash160))
     ∷ []
 
 -- the action of the row of this opcode
 abbrev pub action_in : List (ℕ × Action) → ℕ → Action
 action_in [] opcode stack = Err BadOpcode
 action_in (row ∷ rows) opcode stack = if row.0 == opcode then row.1 stack else action_in rows opcode stack
-
--- what an instruction does
-abbrev pub stack_after : Instr → Action
-stack_after (Push e) stack = Ok (e.items ∷ stack)
-stack_after (Do opcode) stack = action_in opcode_table opcode.0 stack

@@ -1,5 +1,5 @@
 -- What the machine works on.
-use Rattle.std.specs.Prelude.{ℕ, List, ◌∷◌, Result, Ok, Err}
+use Rattle.std.specs.Prelude.{ℕ, List, [], ◌∷◌, Result, Ok, Err}
 use Rattle.cash_base.specs.declared.fault.Cause.{Cause}
 use Rattle.cash_base.specs.declared.fault.MachineCause.{MachineCause}
 use Rattle.cash_base.specs.declared.fault.MachineCause.TheVariants.{Shared, Underflow}
@@ -17,6 +17,13 @@ Action = Stack → Result Stack MachineCause
 abbrev pub shared : {A : Type 0} → Result A Cause → Result A MachineCause
 shared (Ok x) = Ok x
 shared (Err cause) = Err (Shared cause)
+
+-- an operation on the element on top
+abbrev pub on_one : (List ℕ → Result (List ℕ) Cause) → Action
+on_one operation (a ∷ rest) = do
+  e ← shared (operation a)
+  Ok (e ∷ rest)
+on_one operation [] = Err Underflow
 
 -- an operation on the two elements on top: the top is its second operand
 abbrev pub on_two : (List ℕ → List ℕ → Result (List ℕ) Cause) → Action

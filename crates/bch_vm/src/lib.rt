@@ -1,10 +1,18 @@
-//! The Bitcoin Cash machine: what a run of instructions does to a stack of elements.
+//! The Bitcoin Cash machine: what a spend's scripts do, instruction by instruction, and whether the spend is accepted.
 #![tactic(auto)]
 
+pub mod failure;
 pub mod machine;
+pub mod outcome;
+pub mod phase;
+mod room;
+mod run;
+mod stack;
 
 pub use cash_base::MachineCause;
-pub use machine::{Failure, Machine};
+pub use failure::Failure;
+pub use machine::Machine;
+pub use outcome::{MachineOutcome, Step, Which};
 
 #[cfg(test)]
 mod tests;

@@ -1,228 +1,334 @@
-//! The machine: a stack in a room that is reserved at first, so that its runs take no memory.
+//! The machine: a spend's scripts, one after the other, in a room that is reserved at first.
 
-ghost use Rattle.std.specs.Prelude.{◌≡◌, ◌+◌, ◌≤◌, ◌<◌, List, ℕ, length, map, reverse, IfOk, IfErr, OnOk, Ok, Err, [], ◌∷◌, ◌++◌};
-ghost use Rattle.element_ops.specs.Operation.{result2};
+ghost use Rattle.std.specs.Prelude.{◌≡◌, ◌+◌, ◌≤◌, ◌<◌, List, ℕ, [], ◌∷◌, length, map, reverse, IfOk, IfErr, OnOk, IfSome, IfNone, slice_index_or, ◌++◌};
+ghost use Rattle.tx_context.specs.Limits.{IsContext};
+ghost use Rattle.script_codec.specs.Reading.{reading};
+ghost use Rattle.bch_vm.specs.declared.phase.Phase.TheVariants.{Running, Over};
 ghost use Rattle.script_codec.specs.declared.instr.Instr.{Instr};
-ghost use Rattle.bch_vm.specs.Stack.{Stack, on_two};
-ghost use Rattle.bch_vm.specs.Opcode.{stack_after, action_in, opcode_table, nipped, picked, copied, copied_at, index_taken};
 ghost use Rattle.bch_vm.specs.Script.{RunsInTurn};
+ghost use Rattle.bch_vm.specs.Course.{Gives, Stops};
+ghost use Rattle.bch_vm.specs.Spend;
+ghost use Rattle.bch_vm.specs.Spend.{push_check, stack_left, behind_unlocking, behind_locking, behind_redeem, redeemed, scripts_course, spent_input, spend_outcome};
+ghost use Rattle.bch_vm.specs.Position.{Position, position, state_at};
+ghost use Rattle.bch_vm.specs.Status.{Status, stack_of, script_of, closed_course, scripts_from, course_from, IsAtBeginning, Goes, rank};
 
-use cash_base::element::copy_of;
-use cash_base::{Cause, Element, MachineCause, Memory, read_number};
-use element_ops::{Op2, apply2};
-use script_codec::{Instr, Opcode};
+use crate::outcome::{MachineOutcome, Step, Which};
+use crate::phase::Phase;
+use crate::run::{LONGEST_SCRIPT, Run, is_p2sh};
+use cash_base::{Element, MachineCause, Memory};
+use script_codec::next_instr;
 use std::alloc::Global;
 use std::marker::Model;
+use tx_context::{Context, ContextInput, Verdicts};
 
-/// The places of the stack: 1,000 elements, and the three that an opcode adds at most before its limit is tested.
-pub const PLACES: usize = 1003;
-
-/// Where a run fails: the index of the instruction, counted from 0, and why.
-#[derive(Clone, Copy, Debug, PartialEq, Eq)]
-pub struct Failure {
-    pub at: u32,
-    pub cause: MachineCause,
-}
-
-/// A stack of elements, which contracts see as their bytes, the top first.
+/// The machine of Bitcoin Cash, as it is after May 2022, in a spend.
+///
+/// Contracts see how far the spend is (`Status`); what is left of a spend from there is a `Course`: a row for each
+/// instruction that is passed, and the outcome.
 #[derive(Drop)]
 pub struct Machine {
-    stack: Vec<Element>,
+    phase: Phase,
+    run: Run,
+    redeem: Element,
 }
 
 impl Model for Machine {
-    ghost use Rattle.std.specs.Prelude.{List, ℕ, ◌≤◌, reverse, map, vec_capacity};
+    ghost use Rattle.bch_vm.specs.Status.{Status, status};
 
-    ghost Value = { List (List ℕ) };
+    ghost Value = { Status };
 
-    ghost view = { λ machine. reverse (map (λ e. e.items) machine.stack.items) };
-
-    ghost invariant = { λ machine. 1003 ≤ vec_capacity machine.stack };
+    ghost view = { λ machine. status machine.phase machine.run machine.redeem.items };
 }
 
 impl Machine {
-    ghost use Rattle.bch_vm.specs.Script.{run_outcome};
-
-    /// A machine with an empty stack, whose room is reserved.
+    /// A machine at the beginning of a spend. Its stacks are reserved, so that nothing behind this takes memory.
     pub fn new(alloc: Global) -> Result<Machine, Memory>
-        ensures { IfOk result (λ machine. machine ≡ []) }
+        ensures { IfOk result IsAtBeginning }
     {
-        let mut stack = Vec::new(alloc);
-        stack.reserve(PLACES)?;
-        Ok(Machine { stack })
+        Ok(Machine {
+            phase: Phase::Begin,
+            run: Run::new(alloc)?,
+            redeem: Element::new(),
+        })
     }
 
-    /// The elements, the top last.
+    /// The elements of the stack, the top last.
     pub fn stack(&self) -> &[Element]
-        ensures { reverse (map (λ e. e.items) result.now) ≡ self.now }
+        ensures { reverse (map (λ e. e.items) result.now) ≡ stack_of self.now }
     {
-        self.stack.as_slice()
+        self.run.stack()
     }
 
-    /// Runs instructions on these elements, of which the first stands on top, without the limits on a script.
+    /// Goes to the beginning of a spend, from wherever the machine is.
+    pub fn begin(&mut self)
+        ensures begins { IsAtBeginning self.new }
+        ensures stack { stack_of self.new ≡ [] }
+    {
+        self.phase = Phase::Begin;
+        self.run.begin();
+    }
+
+    /// Passes one instruction of the spend of the context's active input, or answers its end.
     ///
-    /// On `Ok` the stack is what the run leaves. It takes no memory.
-    pub fn run(&mut self, code: &[Instr], elements: &[Element]) -> Result<(), Failure>
-        requires { length elements.now + length code.now ≤ 1003 }
-        ensures ok { OnOk result (run_outcome code.now (map (λ e. e.items) elements.now) ≡ Ok self.new) }
-        ensures err { IfErr result (λ failure. run_outcome code.now (map (λ e. e.items) elements.now) ≡ Err failure) }
+    /// From the beginning on, steps with the same context and table answer `Ran` for each instruction that is passed, in
+    /// branches that aren't taken too, with the stack behind it, and then the end, again and again.
+    pub fn step(&mut self, context: &Context, verdicts: &Verdicts) -> Step
+        ensures { Goes (course_from context.now verdicts.now self.old) result
+            (course_from context.now verdicts.now self.new) (stack_of self.new) }
     {
-        self.load(elements);
-        for (at, instr) in code.iter().enumerate() {
-            if let Err(cause) = self.step(instr) {
-                let at = at as u32;
-                return Err(Failure { at, cause });
+        self.step_scripts(unlocking_of(context), locking_of(context))
+    }
+
+    /// The outcome of the spend of the context's active input, from its beginning.
+    pub fn spend(&mut self, context: &Context, verdicts: &Verdicts) -> MachineOutcome
+        ensures value { result ≡ spend_outcome context.now verdicts.now }
+        ensures ended { course_from context.now verdicts.now self.new ≡ Stops result }
+    {
+        self.begin();
+        'steps: loop {
+            match self.step(context, verdicts) {
+                Step::Ran { .. } => {}
+                Step::Ended(outcome) => return outcome,
             }
         }
-        Ok(())
     }
 
-    /// Takes these elements as its stack, the first on top.
-    fn load(&mut self, elements: &[Element])
-        requires { length elements.now ≤ 1003 }
-        ensures { self.new ≡ map (λ e. e.items) elements.now }
+    /// Passes one instruction of the spend by these scripts, or answers its end.
+    fn step_scripts(&mut self, unlocking: &[u8], locking: &[u8]) -> Step
+        requires unlocking { length unlocking.now ≤ 20000 }
+        requires locking { length locking.now ≤ 20000 }
+        ensures { Goes (scripts_from unlocking.now locking.now self.old) result
+            (scripts_from unlocking.now locking.now self.new) (stack_of self.new) }
     {
-        self.stack.clear();
-        let mut rest = elements;
-        'rest: while let Some((last, others)) = rest.split_last() {
-            self.push(copy_of(last.as_slice()));
-            rest = others;
-        }
-    }
-
-    fn push(&mut self, element: Element)
-        requires { length self.old < 1003 }
-        ensures { self.new ≡ element.items ∷ self.old }
-    {
-        let _ = self.stack.push(element);
-    }
-
-    /// Does one instruction.
-    fn step(&mut self, instr: &Instr) -> Result<(), MachineCause>
-        requires { length self.old < 1003 }
-        ensures ok { OnOk result (stack_after instr.now self.old ≡ Ok self.new) }
-        ensures err { IfErr result (λ cause. stack_after instr.now self.old ≡ Err cause) }
-        ensures height { length self.new ≤ length self.old + 1 }
-    {
-        match instr {
-            Instr::Push(e) => {
-                self.push(copy_of(e.as_slice()));
-                Ok(())
+        'phases: loop {
+            if let Some(step) = self.advance(unlocking, locking) {
+                return step;
             }
-            Instr::Do(opcode) => self.act(*opcode),
         }
     }
 
-    /// Does what an opcode does.
-    fn act(&mut self, opcode: Opcode) -> Result<(), MachineCause>
-        requires { length self.old < 1003 }
-        ensures ok { OnOk result (action_in opcode_table opcode.0 self.old ≡ Ok self.new) }
-        ensures err { IfErr result (λ cause. action_in opcode_table opcode.0 self.old ≡ Err cause) }
-        ensures height { length self.new ≤ length self.old + 1 }
+    /// Passes one instruction, answers the end, or goes to a later phase.
+    fn advance(&mut self, unlocking: &[u8], locking: &[u8]) -> Option<Step>
+        requires unlocking { length unlocking.now ≤ 20000 }
+        requires locking { length locking.now ≤ 20000 }
+        ensures step { IfSome result (λ step. Goes (scripts_from unlocking.now locking.now self.old) step
+            (scripts_from unlocking.now locking.now self.new) (stack_of self.new)) }
+        ensures same { IfNone result
+            (scripts_from unlocking.now locking.now self.new ≡ scripts_from unlocking.now locking.now self.old) }
+        ensures later { IfNone result (rank self.new.phase < rank self.old.phase) }
     {
-        match opcode {
-            Opcode::NOP => Ok(()),
-            Opcode::NIP => self.nip(),
-            Opcode::PICK => self.pick(),
-            Opcode::NUMEQUAL => self.num_equal(),
-            _ => Err(MachineCause::BadOpcode),
-        }
-    }
-
-    fn nip(&mut self) -> Result<(), MachineCause>
-        requires { length self.old < 1003 }
-        ensures ok { OnOk result (nipped self.old ≡ Ok self.new) }
-        ensures err { IfErr result (λ cause. nipped self.old ≡ Err cause) }
-        ensures height { length self.new ≤ length self.old }
-    {
-        let Some(top) = self.stack.pop() else {
-            return Err(MachineCause::Underflow);
-        };
-        let Some(_) = self.stack.pop() else {
-            return Err(MachineCause::Underflow);
-        };
-        self.push(top);
-        Ok(())
-    }
-
-    fn pick(&mut self) -> Result<(), MachineCause>
-        requires { length self.old < 1003 }
-        ensures ok { OnOk result (picked self.old ≡ Ok self.new) }
-        ensures err { IfErr result (λ cause. picked self.old ≡ Err cause) }
-        ensures height { length self.new ≤ length self.old }
-    {
-        let n = self.take_index()?;
-        self.copy_at(n)?;
-        Ok(())
-    }
-
-    /// Takes a number that stands above at least one element.
-    fn take_index(&mut self) -> Result<i64, MachineCause>
-        ensures ok { IfOk result (λ n. index_taken self.old ≡ Ok (n, self.new)) }
-        ensures err { IfErr result (λ cause. index_taken self.old ≡ Err cause) }
-        ensures height { OnOk result (length self.new < length self.old) }
-        ensures less { length self.new ≤ length self.old }
-    {
-        let Some(index) = self.stack.pop() else {
-            return Err(MachineCause::Underflow);
-        };
-        if self.stack.is_empty() {
-            return Err(MachineCause::Underflow);
-        }
-        match read_number(index.as_slice()) {
-            Some(n) => Ok(n),
-            None => Err(MachineCause::Shared(Cause::NotANumber)),
-        }
-    }
-
-    fn copy_at(&mut self, n: i64) -> Result<(), MachineCause>
-        requires { length self.old < 1003 }
-        ensures ok { OnOk result (copied_at n self.old ≡ Ok self.new) }
-        ensures err { IfErr result (λ cause. copied_at n self.old ≡ Err cause) }
-        ensures height { length self.new ≤ length self.old + 1 }
-    {
-        if n < 0 {
-            return Err(MachineCause::Underflow);
-        }
-        self.copy(n as usize)?;
-        Ok(())
-    }
-
-    fn copy(&mut self, below: usize) -> Result<(), MachineCause>
-        requires { length self.old < 1003 }
-        ensures ok { OnOk result (copied below self.old ≡ Ok self.new) }
-        ensures err { IfErr result (λ cause. copied below self.old ≡ Err cause) }
-        ensures height { length self.new ≤ length self.old + 1 }
-    {
-        let height = self.stack.len();
-        if below >= height {
-            return Err(MachineCause::Underflow);
-        }
-        let copy = copy_of(self.stack[height - 1 - below].as_slice());
-        self.push(copy);
-        Ok(())
-    }
-
-    fn num_equal(&mut self) -> Result<(), MachineCause>
-        requires { length self.old < 1003 }
-        ensures ok { OnOk result (on_two (result2 Op2.NumEqual) self.old ≡ Ok self.new) }
-        ensures err { IfErr result (λ cause. on_two (result2 Op2.NumEqual) self.old ≡ Err cause) }
-        ensures height { length self.new ≤ length self.old }
-    {
-        let Some(b) = self.stack.pop() else {
-            return Err(MachineCause::Underflow);
-        };
-        let Some(a) = self.stack.pop() else {
-            return Err(MachineCause::Underflow);
-        };
-        match apply2(Op2::NumEqual, a.as_slice(), b.as_slice()) {
-            Ok(e) => {
-                self.push(e);
-                Ok(())
+        match self.phase {
+            Phase::Over(outcome) => Some(Step::Ended(outcome)),
+            Phase::Begin => {
+                self.open_unlocking(unlocking, locking);
+                None
             }
-            Err(cause) => Err(MachineCause::Shared(cause)),
+            Phase::Running(which) => self.pass(which, unlocking, locking),
         }
     }
+
+    /// Passes one instruction of the script that is run, or goes to a later phase.
+    fn pass(&mut self, which: Which, unlocking: &[u8], locking: &[u8]) -> Option<Step>
+        requires phase { self.old.phase ≡ Running which }
+        requires unlocking { length unlocking.now ≤ 20000 }
+        requires locking { length locking.now ≤ 20000 }
+        ensures step { IfSome result (λ step. Goes (scripts_from unlocking.now locking.now self.old) step
+            (scripts_from unlocking.now locking.now self.new) (stack_of self.new)) }
+        ensures same { IfNone result
+            (scripts_from unlocking.now locking.now self.new ≡ scripts_from unlocking.now locking.now self.old) }
+        ensures later { IfNone result (rank self.new.phase < rank self.old.phase) }
+    {
+        let at = self.run.at();
+        let script = pick(which, unlocking, locking, self.redeem.as_slice());
+        match self.run.pass(script) {
+            Ok(Some(executed)) => Some(Step::Ran {
+                script: which,
+                at,
+                executed,
+            }),
+            Ok(None) => {
+                self.close(which, unlocking, locking);
+                None
+            }
+            Err(cause) => {
+                self.phase = Phase::Over(MachineOutcome::Refused {
+                    script: which,
+                    at,
+                    cause,
+                });
+                None
+            }
+        }
+    }
+
+    /// Goes on behind the last instruction of a script.
+    fn close(&mut self, which: Which, unlocking: &[u8], locking: &[u8])
+        requires unlocking { length unlocking.now ≤ 20000 }
+        requires locking { length locking.now ≤ 20000 }
+        ensures course { scripts_from unlocking.now locking.now self.new
+            ≡ closed_course which unlocking.now locking.now (state_at self.old.position) }
+        ensures later { rank self.new.phase < rank (Running which) }
+    {
+        if self.run.is_open() {
+            let at = self.run.at();
+            self.refuse(which, at, MachineCause::Unbalanced);
+            return;
+        }
+        match which {
+            Which::Unlocking => self.open_locking(unlocking, locking),
+            Which::Locking => self.close_locking(unlocking, locking),
+            Which::Redeem => self.close_redeem(),
+        }
+    }
+
+    fn refuse(&mut self, script: Which, at: u32, cause: MachineCause)
+        ensures { self.new.phase ≡ Over (MachineOutcome.Refused script at cause) }
+    {
+        self.phase = Phase::Over(MachineOutcome::Refused { script, at, cause });
+    }
+
+    /// Begins the unlocking script, where it is pushes alone.
+    fn open_unlocking(&mut self, unlocking: &[u8], locking: &[u8])
+        requires { length unlocking.now ≤ 20000 }
+        ensures course { scripts_from unlocking.now locking.now self.new ≡ scripts_course unlocking.now locking.now }
+        ensures later { rank self.new.phase < 4 }
+    {
+        if let Err(outcome) = check_pushes(unlocking) {
+            self.phase = Phase::Over(outcome);
+        } else if unlocking.len() > LONGEST_SCRIPT {
+            self.refuse(Which::Unlocking, 0, MachineCause::ScriptSize);
+        } else {
+            self.run.begin();
+            self.phase = Phase::Running(Which::Unlocking);
+        }
+    }
+
+    /// Begins the locking script on the stack that is there.
+    fn open_locking(&mut self, unlocking: &[u8], locking: &[u8])
+        ensures course { scripts_from unlocking.now locking.now self.new
+            ≡ behind_unlocking unlocking.now locking.now (state_at self.old.position) }
+        ensures later { rank self.new.phase < 3 }
+    {
+        if locking.len() > LONGEST_SCRIPT {
+            self.refuse(Which::Locking, 0, MachineCause::ScriptSize);
+        } else {
+            self.run.begin_script();
+            self.phase = Phase::Running(Which::Locking);
+        }
+    }
+
+    /// Decides behind the locking script, or begins the redeem script.
+    fn close_locking(&mut self, unlocking: &[u8], locking: &[u8])
+        requires { length unlocking.now ≤ 20000 }
+        ensures course { scripts_from unlocking.now locking.now self.new
+            ≡ behind_locking unlocking.now locking.now (state_at self.old.position) }
+        ensures later { rank self.new.phase < 2 }
+    {
+        if let Err(outcome) = self.run.check_top(Which::Locking, false_cause(locking)) {
+            self.phase = Phase::Over(outcome);
+        } else if is_p2sh(locking) {
+            let last = self.run.last();
+            self.open_redeem(last, unlocking, locking);
+        } else {
+            self.phase = Phase::Over(self.run.outcome(Which::Locking));
+        }
+    }
+
+    /// Takes the stack of the unlocking script again, and begins its top, the redeem script, on the rest.
+    fn open_redeem(&mut self, last: u32, unlocking: &[u8], locking: &[u8])
+        requires { length unlocking.now ≤ 20000 }
+        ensures course { scripts_from unlocking.now locking.now self.new ≡ redeemed last (stack_left unlocking.now) }
+        ensures later { rank self.new.phase < 2 }
+    {
+        self.run.unlock(unlocking);
+        match self.run.take_script() {
+            Some(redeem) => {
+                self.redeem = redeem;
+                self.phase = Phase::Running(Which::Redeem);
+            }
+            None => self.refuse(Which::Locking, last, MachineCause::EndEmpty),
+        }
+    }
+
+    /// Decides behind the redeem script.
+    fn close_redeem(&mut self)
+        ensures course { (unlocking locking : List ℕ) → scripts_from unlocking locking self.new ≡ behind_redeem (state_at self.old.position) }
+        ensures later { rank self.new.phase < 1 }
+    {
+        if let Err(outcome) = self.run.check_top(Which::Redeem, MachineCause::EndFalse) {
+            self.phase = Phase::Over(outcome);
+        } else {
+            self.phase = Phase::Over(self.run.outcome(Which::Redeem));
+        }
+    }
+}
+
+/// The bytes of a script.
+fn pick<'a>(which: Which, unlocking: &'a [u8], locking: &'a [u8], redeem: &'a [u8]) -> &'a [u8]
+    ensures { result.now ≡ script_of which unlocking.now locking.now redeem.now }
+{
+    match which {
+        Which::Unlocking => unlocking,
+        Which::Locking => locking,
+        Which::Redeem => redeem,
+    }
+}
+
+/// The cause of a false top behind a locking script.
+fn false_cause(locking: &[u8]) -> MachineCause
+    ensures { result ≡ Spend.false_cause locking.now }
+{
+    if is_p2sh(locking) {
+        MachineCause::HashDiffers
+    } else {
+        MachineCause::EndFalse
+    }
+}
+
+/// That an unlocking script is pushes alone, or the refusal of its first instruction that is no push.
+fn check_pushes(unlocking: &[u8]) -> Result<(), MachineOutcome>
+    requires { length unlocking.now ≤ 20000 }
+    ensures ok { OnOk result (push_check 0 (reading unlocking.now) ≡ Gives tt) }
+    ensures err { IfErr result (λ outcome. push_check 0 (reading unlocking.now) ≡ Stops outcome) }
+{
+    let mut place = 0;
+    let mut at = 0;
+    let script = Which::Unlocking;
+    'script: loop {
+        match next_instr(unlocking, place) {
+            Ok(Some((instr, next))) => {
+                if instr.opcode > 0x60 {
+                    let cause = MachineCause::NotPushOnly;
+                    return Err(MachineOutcome::Refused { script, at, cause });
+                }
+                place = next;
+            }
+            Ok(None) => return Ok(()),
+            Err(_) => {
+                let cause = MachineCause::Truncated;
+                return Err(MachineOutcome::Refused { script, at, cause });
+            }
+        }
+        at += 1;
+    }
+}
+
+/// The unlocking bytecode of the input that is spent.
+fn unlocking_of(context: &Context) -> &[u8]
+    ensures value { result.now ≡ (spent_input context.now).unlocking }
+    ensures bound { length result.now ≤ 20000 }
+{
+    let input: &ContextInput = &context.inputs()[context.active() as usize];
+    input.unlocking.as_slice()
+}
+
+/// The locking bytecode of the input that is spent.
+fn locking_of(context: &Context) -> &[u8]
+    ensures value { result.now ≡ (spent_input context.now).locking }
+    ensures bound { length result.now ≤ 20000 }
+{
+    let input: &ContextInput = &context.inputs()[context.active() as usize];
+    input.locking.as_slice()
 }
 
 /// Instructions that stand one behind the other run as the first and then the second.

@@ -11,15 +11,15 @@ use Rattle.cash_tree.specs.declared.Contract.{Contract}
 use Rattle.source_meaning.specs.declared.outcome.Failure as source
 use Rattle.source_meaning.specs.Meaning.{Env, value_of, checked, fails, with_values, no_values, ended, env_after_kind, env_after_all, source_outcome}
 use Rattle.script_codec.specs.declared.instr.Instr.{Instr}
-use Rattle.bch_vm.specs.declared.machine.Failure.{Failure}
+use Rattle.bch_vm.specs.declared.failure.Failure.{Failure}
 use Rattle.bch_vm.specs.Stack.{Stack}
-use Rattle.bch_vm.specs.Script.{state, run, run_outcome, stack_at_end}
+use Rattle.bch_vm.specs.Script.{State, Progress, state, beginning, run, balanced, run_outcome, stack_at_end}
 use Rattle.bch_vm.proofs.Runs.{run_append}
 use Rattle.cashc.specs.Decides.{FailsOrEndsFalse, Agrees, DecidesByRun}
 use Rattle.source_meaning.specs.Runnable.{HaveSlotsFrom, env_of}
 use Rattle.source_meaning.proofs.Slots.{with_values-env_of}
 use Rattle.cashc.specs.Emission.{HoldsArgs, IsEmittable, Leaves, Follows}
-use Rattle.cashc.proofs.Emits.{opcode}
+use Rattle.cashc.proofs.Emits.{opcode, next}
 
 -- the slots of the parameters hold the arguments
 holds_args : (params : List (Param Slot)) (args : List (List ℕ)) → HaveSlotsFrom 0 params → length args ≡ length params → HoldsArgs (with_values params args no_values) args
@@ -28,21 +28,25 @@ holds_args params args slots count slot within = ap (λ env. env slot) (with_val
 
 -- ---- the parameters are dropped from below the value
 
-drops : (v : List ℕ) (args : Stack) (at : ℕ) → (end : ℕ) × (run (replicate (length args) (opcode 0x77)) (state (v ∷ args) at) ≡ Ok (state (v ∷ []) end))
+drops : (v : List ℕ) (args : Stack) (at : Progress) → (end : Progress) × (run (replicate (length args) (opcode 0x77)) (state (v ∷ args) at) ≡ Ok (state (v ∷ []) end))
 drops v [] at = (at, refl)
-drops v (arg ∷ args) at = drops v args (at + 1)
+drops v (arg ∷ args) at = drops v args (next at)
 
 -- how the run ends for a value, or for none
 abbrev EndsAs : Result (List ℕ) source.Failure → Result Stack Failure → Type 0
 EndsAs (Ok v) outcome = outcome ≡ Ok (v ∷ [])
 EndsAs (Err failure) outcome = (f : Failure) × (outcome ≡ Err f)
 
-ends_as : (params : ℕ) (args : Stack) (rows : List Instr) (r : Result (List ℕ) source.Failure) → params ≡ length args → Leaves args r (run rows (state args 0)) → EndsAs r (run_outcome (rows ++ replicate params (opcode 0x77)) args)
+-- the end of a run
+abbrev end_of : Result State Failure → Result Stack Failure
+end_of r = stack_at_end (r >>= λ s. balanced s.board.conditions s)
+
+ends_as : (params : ℕ) (args : Stack) (rows : List Instr) (r : Result (List ℕ) source.Failure) → params ≡ length args → Leaves args r (run rows (state args beginning)) → EndsAs r (run_outcome (rows ++ replicate params (opcode 0x77)) args)
 ends_as params args rows (Ok v) count (at, is) =
     let dropped = drops v args at in
-    ap stack_at_end (ap (λ n. run (rows ++ replicate n (opcode 0x77)) (state args 0)) count ∙ run_append rows (replicate (length args) (opcode 0x77)) (state args 0) ∙ ap (λ n. n >>= run (replicate (length args) (opcode 0x77))) is ∙ dropped.1)
+    ap end_of (ap (λ n. run (rows ++ replicate n (opcode 0x77)) (state args beginning)) count ∙ run_append rows (replicate (length args) (opcode 0x77)) (state args beginning) ∙ ap (λ n. n >>= run (replicate (length args) (opcode 0x77))) is ∙ dropped.1)
 ends_as params args rows (Err failure) count (f, is) =
-    (f, ap stack_at_end (run_append rows (replicate params (opcode 0x77)) (state args 0) ∙ ap (λ n. n >>= run (replicate params (opcode 0x77))) is))
+    (f, ap end_of (run_append rows (replicate params (opcode 0x77)) (state args beginning) ∙ ap (λ n. n >>= run (replicate params (opcode 0x77))) is))
 
 -- ---- both runs end alike
 
@@ -74,7 +78,7 @@ decided contract h rows follows = record {
   alone = h.alone;
   agrees = λ args count elements.
       let env = with_values h.function.params args no_values in
-      let left = follows.runs [] args env 0 refl count (holds_args h.function.params args h.slots count) in
+      let left = follows.runs [] args env beginning refl count (holds_args h.function.params args h.slots count) in
       subst (λ o. Agrees o (run_outcome (rows ++ replicate (length h.function.params) (opcode 0x77)) args)) (sym (outcome_is contract h args))
       (both_agree (value_of h.value env) h.statement.span env _ (ends_as (length h.function.params) args rows (value_of h.value env) (sym count) left));
 }

@@ -22,10 +22,11 @@ use Rattle.source_meaning.specs.declared.outcome.Failure as source
 use Rattle.script_codec.specs.declared.instr.Instr.{Instr}
 use Rattle.script_codec.specs.declared.instr.Instr.TheVariants.{Push, Do}
 use Rattle.script_codec.specs.Spelling.{is_instruction, are_instructions}
-use Rattle.bch_vm.specs.declared.machine.Failure.{Failure}
+use Rattle.bch_vm.specs.declared.failure.Failure.{Failure}
 use Rattle.bch_vm.specs.Stack.{Stack, shared}
 use Rattle.bch_vm.specs.Opcode.{copied_at, element_or_underflow, picked}
-use Rattle.bch_vm.specs.Script.{State, state, run, passed}
+use Rattle.bch_vm.specs.Script.{State, Progress, state, run, passed}
+use Rattle.bch_vm.specs.Board.{board}
 use Rattle.bch_vm.proofs.Runs.{run_append}
 use Rattle.cashc.specs.declared.emission.Emitter.{Emitter}
 use Rattle.std.specs.Prelude.{◌&&◌}
@@ -34,6 +35,10 @@ use Rattle.cashc.specs.Emission.{Leaves, Follows, Emits}
 
 abbrev pub opcode : ℕ → Instr
 opcode n = Do (record { 0 = n })
+
+-- behind an executed instruction
+abbrev pub next : Progress → Progress
+next p = record { at = p.at + 1; last = p.at }
 
 -- one more instruction
 pub instruction_put : (code new : List Instr) (instr : Instr) → is_instruction instr ≡ true → new ≡ code ++ instr ∷ [] → are_instructions new ≡ are_instructions code
@@ -44,7 +49,7 @@ instruction_put (first ∷ code) new instr is e = ap are_instructions e ∙ ap (
 
 follows_literal : (params depth : ℕ) (e : ArrayVec ℕ) (value : Value) → ((env : Env) → value env ≡ Ok e.items) → Follows params depth (Push e ∷ []) value
 follows_literal params depth e value is = record {
-  runs = λ operands args env at d a h. subst (λ r. Leaves (operands ++ args) r (Ok (state (e.items ∷ operands ++ args) (at + 1)))) (sym (is env)) (at + 1, refl);
+  runs = λ operands args env at d a h. subst (λ r. Leaves (operands ++ args) r (Ok (state (e.items ∷ operands ++ args) (next at)))) (sym (is env)) (next at, refl);
 }
 
 pub emits_literal : (old new : Emitter) (e : ArrayVec ℕ) (n : ℤ) (depth digits unit : ℕ) (span : Span) → n ≡ pos (digits * unit) → e.items ≡ minimal_bytes n → new.code.items ≡ old.code.items ++ Push e ∷ [] → new.params ≡ old.params → Emits old new depth (kind_value (ExprKind-F.Int digits unit) span)
@@ -78,7 +83,7 @@ follows_name params depth slot e span known small bytes = record {
   runs = λ operands args env at d a holds.
       let within : slot.0 < length args = omega (arith, known, a) in
       let found = arg_found operands args depth slot.0 d within ∙ ap Some (sym (holds slot within)) in
-      (at + 1 + 1, ap (λ r. passed (at + 1) r >>= run []) (picked_at e.items (operands ++ args) (depth + slot.0) (env slot) (number_read (depth + slot.0) e.items small bytes) found));
+      (next (next at), ap (λ r. passed (at.at + 1) (next (next at)) (r >>= λ stack. Ok (board stack [] [])) >>= run []) (picked_at e.items (operands ++ args) (depth + slot.0) (env slot) (number_read (depth + slot.0) e.items small bytes) found));
 }
 
 pub emits_name : (old mid new : Emitter) (e : ArrayVec ℕ) (n : ℤ) (depth : ℕ) (slot : Slot) (span : Span) → slot.0 < old.params → depth + slot.0 < 2 ^ 63 → n ≡ pos (depth + slot.0) → e.items ≡ minimal_bytes n → mid.code.items ≡ old.code.items ++ Push e ∷ [] → mid.params ≡ old.params → new.code.items ≡ mid.code.items ++ opcode 0x79 ∷ [] → new.params ≡ mid.params → Emits old new depth (kind_value (ExprKind-F.Name slot) span)
@@ -92,20 +97,20 @@ emits_name old mid new e n depth slot span known small is bytes pushed same pick
 -- ---- an operator with two sides
 
 -- what follows the left side
-after_part : (below : Stack) (code : List Instr) (r : Result (List ℕ) source.Failure) (next : Result State Failure) (f : List ℕ → Result (List ℕ) source.Failure) (under : Stack) → Leaves below r next → ((x : List ℕ) (at : ℕ) → Leaves under (f x) (run code (state (x ∷ below) at))) → Leaves under (r >>= f) (next >>= run code)
+after_part : (below : Stack) (code : List Instr) (r : Result (List ℕ) source.Failure) (next : Result State Failure) (f : List ℕ → Result (List ℕ) source.Failure) (under : Stack) → Leaves below r next → ((x : List ℕ) (at : Progress) → Leaves under (f x) (run code (state (x ∷ below) at))) → Leaves under (r >>= f) (next >>= run code)
 after_part below code (Ok x) next f under (at, is) then = subst (λ n. Leaves under (f x) (n >>= run code)) (sym is) (then x at)
 after_part below code (Err failure) next f under (g, is) then = (g, ap (λ n. n >>= run code) is)
 
-compared : (below : Stack) (at : ℕ) (span : Span) (r : Result (List ℕ) Cause) → Leaves below (at_span span r) (passed at (shared r >>= λ e. Ok (e ∷ below)) >>= run [])
-compared below at span (Ok e) = (at + 1, refl)
+compared : (below : Stack) (at : Progress) (span : Span) (r : Result (List ℕ) Cause) → Leaves below (at_span span r) (passed at.at (next at) ((shared r >>= λ e. Ok (e ∷ below)) >>= λ stack. Ok (board stack [] [])) >>= run [])
+compared below at span (Ok e) = (next at, refl)
 compared below at span (Err cause) = (_, refl)
 
 follows_equal : (params depth : ℕ) (a b : List Instr) (left right : Value) (span : Span) → Follows params depth a left → Follows params (depth + 1) b right → Follows params depth (a ++ (b ++ opcode 0x9c ∷ [])) (kind_value (ExprKind-F.Binary Equal left right) span)
 follows_equal params depth a b left right span first second = record {
   runs = λ operands args env at d n holds.
       let below = operands ++ args in
-      let last = λ (x y : List ℕ) (k : ℕ). compared below k span (result2 NumEqual x y) in
-      let further = λ (x : List ℕ) (k : ℕ).
+      let last = λ (x y : List ℕ) (k : Progress). compared below k span (result2 NumEqual x y) in
+      let further = λ (x : List ℕ) (k : Progress).
       let d' : length (x ∷ operands) ≡ depth + 1 = omega (arith, d) in
       subst (λ r. Leaves below (right env >>= λ y. at_span span (result2 NumEqual x y)) r) (sym (run_append b (opcode 0x9c ∷ []) (state (x ∷ below) k)))
       (after_part (x ∷ below) (opcode 0x9c ∷ []) (right env) (run b (state (x ∷ below) k)) (λ y. at_span span (result2 NumEqual x y)) below (second.runs (x ∷ operands) args env k d' n holds) (last x)) in

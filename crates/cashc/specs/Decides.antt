@@ -11,7 +11,7 @@ use Rattle.source_meaning.specs.declared.outcome.SourceOutcome.{SourceOutcome}
 use Rattle.source_meaning.specs.declared.outcome.SourceOutcome.TheVariants.{Met, Failed}
 use Rattle.source_meaning.specs.Meaning.{source_outcome}
 use Rattle.script_codec.specs.declared.instr.Instr.{Instr}
-use Rattle.bch_vm.specs.declared.machine.Failure.{Failure}
+use Rattle.bch_vm.specs.declared.failure.Failure.{Failure}
 use Rattle.bch_vm.specs.Stack.{Stack}
 use Rattle.bch_vm.specs.Script.{run_outcome}
 

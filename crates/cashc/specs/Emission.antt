@@ -11,9 +11,9 @@ use Rattle.source_meaning.specs.declared.outcome.Failure as source
 use Rattle.source_meaning.specs.Meaning.{Env, Value}
 use Rattle.source_meaning.specs.Runnable.{HaveSlotsFrom, IsRunnable}
 use Rattle.script_codec.specs.declared.instr.Instr.{Instr}
-use Rattle.bch_vm.specs.declared.machine.Failure.{Failure}
+use Rattle.bch_vm.specs.declared.failure.Failure.{Failure}
 use Rattle.bch_vm.specs.Stack.{Stack}
-use Rattle.bch_vm.specs.Script.{State, state, run}
+use Rattle.bch_vm.specs.Script.{State, Progress, state, run}
 use Rattle.cashc.specs.declared.emission.Emitter.{Emitter}
 
 -- ---- what can be emitted
@@ -39,12 +39,12 @@ HoldsArgs env args = (slot : Slot) → slot.0 < length args → env slot ≡ sli
 
 -- the value is on top of what was there, or the machine failed where there is none
 abbrev pub Leaves : Stack → Result (List ℕ) source.Failure → Result State Failure → Type 0
-Leaves below (Ok e) next = (at : ℕ) × (next ≡ Ok (state (e ∷ below) at))
+Leaves below (Ok e) next = (at : Progress) × (next ≡ Ok (state (e ∷ below) at))
 Leaves below (Err failure) next = (f : Failure) × (next ≡ Err f)
 
 -- above so many operands, and below them the elements of the parameters, the code leaves the value
 pub record Follows (params depth : ℕ) (code : List Instr) (value : Value) : Type 0 where
-  pub runs : (operands args : List (List ℕ)) (env : Env) (at : ℕ) → length operands ≡ depth → length args ≡ params → HoldsArgs env args
+  pub runs : (operands args : List (List ℕ)) (env : Env) (at : Progress) → length operands ≡ depth → length args ≡ params → HoldsArgs env args
       → Leaves (operands ++ args) (value env) (run code (state (operands ++ args) at))
 
 -- what an emitter added leaves the value

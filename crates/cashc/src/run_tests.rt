@@ -1,4 +1,4 @@
-// Emitted code, run by the machine, beside the run of its source.
+// Emitted code, spent as a redeem script, beside the run of its source.
 
 ghost use Rattle.std.specs.Prelude.{◌≡◌, length, IfOk, IfSome, slice_get};
 ghost use Rattle.source_meaning.specs.Runnable.{CanRun};
@@ -7,12 +7,15 @@ ghost use Rattle.cashc.specs.Form.{IsEquality};
 
 use crate::emission::emit;
 use crate::reading::read_contract;
-use bch_vm::Machine;
-use cash_base::{Element, truth};
+use bch_vm::{Machine, MachineOutcome};
+use cash_base::{Element, Memory};
 use cash_tree::TypedContract;
+use element_ops::{Op1, apply1};
+use script_codec::{Instr, encode};
 use source_meaning::{SourceOutcome, SourceRoom};
 use std::alloc::Global;
 use std::test::Fail;
+use tx_context::{Bytecode, Context, Frame, Input, Verdicts, fill};
 
 const SOURCES: [&str; 4] = [
     "contract S() { function f(int x, int y) { require(x == y); } }",
@@ -64,35 +67,67 @@ fn element(bytes: &[u8]) -> Element {
     element
 }
 
-// Whether the run ended with exactly one element, of which truth.
-fn verdict(machine: &Machine) -> Option<bool> {
-    match machine.stack() {
-        [value] => Some(truth(value.as_slice())),
-        _ => None,
+fn push_of(alloc: Global, bytes: &[u8]) -> Result<Vec<u8>, Memory> {
+    encode(alloc, &[Instr::Push(element(bytes))])
+}
+
+// The code is the redeem script; the first argument lies below it, and the second below that.
+fn context_of(alloc: Global, code: &[u8], x: &[u8], y: &[u8]) -> Result<Context, Fail> {
+    let pushes = [
+        push_of(alloc, y)?,
+        push_of(alloc, x)?,
+        push_of(alloc, code)?,
+    ];
+    let mut unlocking = Vec::new(alloc);
+    for push in &pushes {
+        unlocking.extend_from_slice(push.as_slice())?;
+    }
+    let Ok(digest) = apply1(Op1::Hash160, element(code).as_slice()) else {
+        return Err("each element has a digest".into());
+    };
+    let locking = [b"\xa9\x14".as_slice(), digest.as_slice(), b"\x87"].concat(alloc)?;
+    let input = Input {
+        hash: [0; 32],
+        index: 0,
+        sequence: 0,
+        value: 0,
+        locking: Bytecode::Own,
+        unlocking: Vec::new(alloc),
+    };
+    let mut inputs = Vec::new(alloc);
+    inputs.push(input)?;
+    if inputs.len() > 1000 || locking.len() > 20_000 || unlocking.len() > 20_000 {
+        return Err("it is within the limits".into());
+    }
+    match Frame::new(2, 0, inputs, Vec::new(alloc), 0) {
+        Ok(frame) => Ok(fill(alloc, &frame, &locking, &unlocking)?),
+        Err(_) => Err("it is within the limits".into()),
     }
 }
 
 #[test]
 fn code_decides_as_its_source(rt: HostRuntime) -> Result<(), Fail> {
-    let mut machine = Machine::new(rt.alloc())?;
-    let mut room = SourceRoom::new(rt.alloc())?;
+    let alloc = rt.alloc();
+    let mut machine = Machine::new(alloc)?;
+    let mut room = SourceRoom::new(alloc)?;
+    let Ok(verdicts) = Verdicts::from_rows(Vec::new(alloc)) else {
+        return Err("the table is empty".into());
+    };
     for (i, source) in SOURCES.iter().enumerate() {
-        let contract = contract_of(rt.alloc(), source)?;
-        let code = emit(rt.alloc(), &contract)?;
-        assert!(rt; code.len() < 100);
+        let contract = contract_of(alloc, source)?;
+        let code = emit(alloc, &contract)?;
+        let code = encode(alloc, &code)?;
         for ([x, y], met) in PAIRS {
-            let args = [element(x), element(y)];
             let met = met.get(i).copied();
-            let outcome = room.run(&contract, &[], 0, &args);
+            let outcome = room.run(&contract, &[], 0, &[element(x), element(y)]);
             assert_eq!(rt;
                 Some(outcome == SourceOutcome::Met),
                 met,
                 "{source} on {x:?} {y:?}"
             );
-            let ended = machine.run(code.as_slice(), &args).is_ok();
-            let decided = ended && verdict(&machine) == Some(true);
+            let context = context_of(alloc, &code, x, y)?;
+            let decided = machine.spend(&context, &verdicts) == MachineOutcome::Accepted;
             assert_eq!(rt; Some(decided), met, "{source} on {x:?} {y:?}");
-            assert!(rt; !ended || verdict(&machine).is_some());
         }
     }
     Ok(())

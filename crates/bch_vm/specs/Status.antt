@@ -1,0 +1,77 @@
+-- Where the machine is in a spend.
+use Rattle.std.specs.Prelude.{◌≡◌, ℕ, List}
+use Rattle.tx_context.specs.Transaction.{Transaction}
+use Rattle.tx_context.specs.Table as verdict
+use Rattle.bch_vm.specs.declared.outcome.Which.{Which}
+use Rattle.bch_vm.specs.declared.outcome.Which.TheVariants.{Unlocking, Locking, Redeem}
+use Rattle.bch_vm.specs.declared.outcome.MachineOutcome.{MachineOutcome}
+use Rattle.bch_vm.specs.declared.outcome.Step.{Step}
+use Rattle.bch_vm.specs.declared.outcome.Step.TheVariants.{Ran, Ended}
+use Rattle.bch_vm.specs.declared.phase.Phase.{Phase}
+use Rattle.bch_vm.specs.declared.phase.Phase.TheVariants.{Begin, Running, Over}
+use Rattle.bch_vm.specs.Stack.{Stack}
+use Rattle.bch_vm.specs.Script.{State, balanced}
+use Rattle.bch_vm.specs.Course.{Course, Passes, Stops, ◌>>=◌, row_of}
+use Rattle.bch_vm.specs.Spend.{told, behind_unlocking, behind_locking, behind_redeem, scripts_course, spent_input, spend_course}
+use Rattle.bch_vm.specs.Position.{Position, state_at, rest_course}
+
+-- how far the spend is, where the run of its script is, and the redeem script
+pub record Status : Type 0 where
+  pub phase : Phase
+  pub position : Position
+  pub redeem : List ℕ
+
+abbrev pub status : Phase → Position → List ℕ → Status
+status phase position redeem = record { phase = phase; position = position; redeem = redeem }
+
+abbrev pub stack_of : Status → Stack
+stack_of s = (state_at s.position).board.stack
+
+-- the bytes of a script
+abbrev pub script_of : Which → List ℕ → List ℕ → List ℕ → List ℕ
+script_of Unlocking unlocking locking redeem = unlocking
+script_of Locking unlocking locking redeem = locking
+script_of Redeem unlocking locking redeem = redeem
+
+-- what comes behind a script
+abbrev pub behind : Which → List ℕ → List ℕ → State → Course MachineOutcome
+behind Unlocking unlocking locking s = behind_unlocking unlocking locking s
+behind Locking unlocking locking s = behind_locking unlocking locking s
+behind Redeem unlocking locking s = behind_redeem s
+
+-- what comes behind the last instruction of a script, where no condition may be open
+abbrev pub closed_course : Which → List ℕ → List ℕ → State → Course MachineOutcome
+closed_course which unlocking locking s = told which (balanced s.board.conditions s) >>= behind which unlocking locking
+
+abbrev pub phase_course : Phase → Position → List ℕ → List ℕ → List ℕ → Course MachineOutcome
+phase_course Begin p redeem unlocking locking = scripts_course unlocking locking
+phase_course (Running which) p redeem unlocking locking =
+    rest_course which (script_of which unlocking locking redeem) p >>= behind which unlocking locking
+phase_course (Over outcome) p redeem unlocking locking = Stops outcome
+
+-- the course of what is left of the spend by these scripts
+abbrev pub scripts_from : List ℕ → List ℕ → Status → Course MachineOutcome
+scripts_from unlocking locking s = phase_course s.phase s.position s.redeem unlocking locking
+
+-- the course of what is left of the spend
+abbrev pub course_from : Transaction (List ℕ) → List verdict.Row → Status → Course MachineOutcome
+course_from context verdicts s = scripts_from (spent_input context).unlocking (spent_input context).locking s
+
+-- nothing was done: all of a spend is left, whichever it is
+abbrev pub IsAtBeginning : Status → Type 0
+IsAtBeginning s = (context : Transaction (List ℕ)) (verdicts : List verdict.Row) → course_from context verdicts s ≡ spend_course context verdicts
+
+-- What a step answers by the course that was left, with the course that is left behind it and the stack. It answers the
+-- first row; at the end it answers the end, and the end is what is left.
+abbrev pub Goes : Course MachineOutcome → Step → Course MachineOutcome → Stack → Type 0
+Goes (Passes row rest) (Ran script at executed) next stack = (row ≡ row_of script at executed stack) × (next ≡ rest)
+Goes (Stops outcome) (Ended answer) next stack = (answer ≡ outcome) × (next ≡ Stops outcome)
+Goes _ _ next stack = ⊥
+
+-- how many phases are left at most
+abbrev pub rank : Phase → ℕ
+rank Begin = 4
+rank (Running Unlocking) = 3
+rank (Running Locking) = 2
+rank (Running Redeem) = 1
+rank (Over outcome) = 0

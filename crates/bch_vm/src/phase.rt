@@ -1,0 +1,13 @@
+//! How far a spend is.
+
+use crate::outcome::{MachineOutcome, Which};
+
+#[derive(Clone, Copy, Debug, PartialEq, Eq)]
+pub enum Phase {
+    /// Nothing was done.
+    Begin,
+    /// A script is run.
+    Running(Which),
+    /// The spend has ended.
+    Over(MachineOutcome),
+}
