@@ -7,3 +7,4 @@ pub mod Spend
 pub mod Opening
 pub mod Position
 pub mod Status
+pub mod Law

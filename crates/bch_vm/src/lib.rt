@@ -2,6 +2,7 @@
 #![tactic(auto)]
 
 pub mod failure;
+pub mod laws;
 pub mod machine;
 pub mod outcome;
 pub mod phase;

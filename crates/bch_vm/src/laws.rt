@@ -1,0 +1,54 @@
+//! A spend of code as a redeem script is decided by the run of its instructions.
+
+ghost use Rattle.std.specs.Prelude.{◌≡◌, ℕ, List, IsTrue};
+ghost use Rattle.tx_context.specs.Transaction.{Transaction};
+ghost use Rattle.tx_context.specs.Table.{Row as Verdict};
+ghost use Rattle.script_codec.specs.declared.instr.Instr.{Instr};
+ghost use Rattle.bch_vm.specs.Stack.{Stack};
+ghost use Rattle.bch_vm.specs.Script.{run_end};
+ghost use Rattle.bch_vm.specs.Spend.{spend_outcome};
+ghost use Rattle.bch_vm.specs.Law.{IsRedeemed, IsSmall, decided_by, is_in_room};
+
+use script_codec::laws::{meaning_of_spelled, reading_behind_encoded, reading_in_turn};
+
+/// A spend of code as a redeem script ends as the run of its instructions on the elements that are pushed, if the spend
+/// isn't refused for more than 201 opcodes in a script or more than 1,000 elements.
+///
+/// Where the run fails the spend is refused in the redeem script, at the index and for the cause of the failure; it is
+/// accepted exactly where the run ends with one true element; and otherwise it is refused by the stack that is left, as
+/// without an element, with a false top, or with more than one. Sources: the Bitcoin Cash specification, and BIP 16 for
+/// the two scripts.
+pub fn redeemed_code_decides()
+    ensures { (elements : Stack) (code : List Instr) (context : Transaction (List ℕ)) (verdicts : List Verdict)
+        → IsRedeemed elements code context
+        → IsTrue (is_in_room (spend_outcome context verdicts))
+        → spend_outcome context verdicts ≡ decided_by (run_end code elements) }
+{
+    reading_in_turn();
+    reading_behind_encoded();
+    meaning_of_spelled();
+}
+
+/// A spend of code as a redeem script isn't refused for more than 201 opcodes in a script or more than 1,000 elements, where
+/// the elements and the instructions are at most 996 and at most 201 opcodes of the code count.
+pub fn spend_stays_in_room()
+    ensures { (elements : Stack) (code : List Instr) (context : Transaction (List ℕ)) (verdicts : List Verdict)
+        → IsRedeemed elements code context
+        → IsSmall elements code
+        → IsTrue (is_in_room (spend_outcome context verdicts)) }
+{
+    reading_in_turn();
+    reading_behind_encoded();
+    meaning_of_spelled();
+}
+
+/// So a spend of code as a redeem script, where both are so few, ends as the run of its instructions.
+pub fn spend_is_decided()
+    ensures { (elements : Stack) (code : List Instr) (context : Transaction (List ℕ)) (verdicts : List Verdict)
+        → IsRedeemed elements code context
+        → IsSmall elements code
+        → spend_outcome context verdicts ≡ decided_by (run_end code elements) }
+{
+    redeemed_code_decides();
+    spend_stays_in_room();
+}
