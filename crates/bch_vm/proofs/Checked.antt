@@ -33,7 +33,8 @@ count_behind raw s = s.count + weight raw.opcode
 
 abbrev pub checked_after : Raw → Instr → Counted → Result Counted MachineCause
 checked_after raw instr s =
-    checked (nat_lt 201 (count_behind raw s)) (board_after instr s.state.board) (progress_after instr s.state.board.conditions s.state.progress) (count_behind raw s)
+    checked (nat_lt 201 (count_behind raw s)) (board_after instr s.state.board)
+    (progress_after instr s.state.board.conditions s.state.progress) (count_behind raw s)
 
 -- all the checks, by what they test
 abbrev all_checks : Bool → Bool → Instr → ℕ → Counted → Result Counted MachineCause
@@ -44,11 +45,13 @@ all_checks long unfit instr count s = do
   b ← limited_after instr s.state.board
   Ok (counted (state_of b (progress_after instr s.state.board.conditions s.state.progress)) count)
 
-pub raw-checked : (raw : Raw) (instr : Instr) (s : Counted) → instruction raw ≡ instr → is_minimal raw ≡ true → length raw.pushed ≤ 520 → raw_after raw s ≡ checked_after raw instr s
+pub raw-checked : (raw : Raw) (instr : Instr) (s : Counted) → instruction raw ≡ instr → is_minimal raw ≡ true
+    → length raw.pushed ≤ 520 → raw_after raw s ≡ checked_after raw instr s
 raw-checked raw instr s meant minimal short =
     let count = count_behind raw s in
     let live = is_live s.state.board.conditions in
-    ap (λ long. all_checks long (live && not (is_minimal raw)) (instruction raw) count s) (le-ltb 520 (length raw.pushed) short)
+    ap (λ long. all_checks long (live && not (is_minimal raw)) (instruction raw) count s)
+    (le-ltb 520 (length raw.pushed) short)
     ∙ ap (λ fit. all_checks false (live && not fit) (instruction raw) count s) minimal
     ∙ ap (λ unfit. all_checks false unfit (instruction raw) count s) (and-false live)
     ∙ ap (λ i. all_checks false false i count s) meant

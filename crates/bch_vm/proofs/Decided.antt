@@ -25,46 +25,65 @@ are_short : (es : List (List ℕ)) → AllByRecursion IsElement es → AllByRecu
 are_short [] are = tt
 are_short (e ∷ es) are = (are.0.size, are_short es are.1)
 
-short_onto : (es others : List (List ℕ)) → AllByRecursion IsShort es → AllByRecursion IsShort others → AllByRecursion IsShort (reverse_aux es others)
+short_onto : (es others : List (List ℕ)) → AllByRecursion IsShort es → AllByRecursion IsShort others
+    → AllByRecursion IsShort (reverse_aux es others)
 short_onto [] others are more = more
 short_onto (e ∷ es) others are more = short_onto es (e ∷ others) are.1 (are.0, more)
 
-short_before : (es : List (List ℕ)) (e : List ℕ) → AllByRecursion IsShort es → IsShort e → AllByRecursion IsShort (es ++ e ∷ [])
+short_before : (es : List (List ℕ)) (e : List ℕ) → AllByRecursion IsShort es → IsShort e
+    → AllByRecursion IsShort (es ++ e ∷ [])
 short_before [] e are last = (last, tt)
 short_before (first ∷ es) e are last = (are.0, short_before es e are.1 last)
 
 -- ---- the law
 
-pub are_read : Laws → (elements : Stack) (code : List Instr) (context : Transaction (List ℕ)) → IsRedeemed elements code context → AreRead elements code (spent_input context).unlocking (spent_input context).locking
+pub are_read : Laws → (elements : Stack) (code : List Instr) (context : Transaction (List ℕ))
+    → IsRedeemed elements code context
+    → AreRead elements code (spent_input context).unlocking (spent_input context).locking
 are_read laws elements code context is =
     let redeem = spellings code in
     let all = reverse elements ++ redeem ∷ [] in
-    let pushed : (spent_input context).unlocking ≡ spellings (map push all) = is.unlocking ∙ ap spellings (sym (map-append push (reverse elements) (redeem ∷ []))) in
+    let pushed : (spent_input context).unlocking ≡ spellings (map push all) = is.unlocking
+    ∙ ap spellings (sym (map-append push (reverse elements) (redeem ∷ []))) in
     record {
       pushes = all;
       pushed = reverse-append (reverse elements) (redeem ∷ []) ∙ ap (λ es. redeem ∷ es) (reverse-reverse elements);
       unlocking_read = ap reading pushed ∙ code_read laws (map push all) (are_pushes all);
-      unlocking_fit = pushes_fit laws all (short_before (reverse elements) redeem (short_onto elements [] (are_short elements is.are_elements) tt) is.redeem_size);
+      unlocking_fit =
+          pushes_fit laws all (short_before (reverse elements) redeem
+          (short_onto elements [] (are_short elements is.are_elements) tt) is.redeem_size);
       unlocking_size = subst (λ script. length script ≤ 10000) (sym is.unlocking) is.unlocking_size;
       locking_read = ap reading (is.locking ∙ locking-spelled redeem) ∙ code_read laws (locking_code redeem) refl;
       locking_fit = locking_fit laws redeem;
-      locking_size = let size : length (spent_input context).locking ≡ 23 = ap length is.locking ∙ length-locking redeem in omega (arith, size);
+      locking_size =
+          let size : length (spent_input context).locking ≡ 23 = ap length is.locking
+          ∙ length-locking redeem in omega (arith, size);
       locking_p2sh = ap is_p2sh is.locking ∙ locking-p2sh redeem;
       redeem_read = code_read laws code is.spelled;
       redeem_fit = code_fit laws code is.spelled is.redeem_size;
       redeem_size = let size = is.redeem_size in omega (arith, size);
     }
 
-decides : (elements : Stack) (code : List Instr) (unlocking locking : List ℕ) → AreRead elements code unlocking locking → IsTrue (is_in_room (outcome_of (scripts_course unlocking locking))) → outcome_of (scripts_course unlocking locking) ≡ decided_by (run_end code elements)
+decides : (elements : Stack) (code : List Instr) (unlocking locking : List ℕ)
+    → AreRead elements code unlocking locking → IsTrue (is_in_room (outcome_of (scripts_course unlocking locking)))
+    → outcome_of (scripts_course unlocking locking) ≡ decided_by (run_end code elements)
 decides elements code unlocking locking read room =
     let redeem = spellings code in
     let first = ap outcome_of (begins elements code unlocking locking read) in
-    let stays : Stays (unlocking_course read.pushes) = stays_before (unlocking_course read.pushes) (behind_unlocking unlocking locking) (subst (λ o. IsTrue (is_in_room o)) first room) in
+    let stays : Stays (unlocking_course read.pushes) = stays_before (unlocking_course read.pushes)
+    (behind_unlocking unlocking locking) (subst (λ o. IsTrue (is_in_room o)) first room) in
     let second = first ∙ unlocked elements code unlocking locking read stays in
-    let locked : Stays (locking_course redeem elements) = stays_before (locking_course redeem elements) (behind_locking unlocking locking) (subst (λ o. IsTrue (is_in_room o)) second room) in
+    let locked : Stays (locking_course redeem elements) = stays_before (locking_course redeem elements)
+    (behind_locking unlocking locking) (subst (λ o. IsTrue (is_in_room o)) second room) in
     let third = second ∙ unlocked_twice elements code unlocking locking read stays locked in
-    let ran : Stays (redeem_course code elements) = stays_before (redeem_course code elements) behind_redeem (subst (λ o. IsTrue (is_in_room o)) third room) in
+    let ran : Stays (redeem_course code elements) = stays_before (redeem_course code elements) behind_redeem
+    (subst (λ o. IsTrue (is_in_room o)) third room) in
     third ∙ redeemed_runs elements code read.redeem_fit ran
 
-pub code_decides : Laws → (elements : Stack) (code : List Instr) (context : Transaction (List ℕ)) (verdicts : List verdict.Row) → IsRedeemed elements code context → IsTrue (is_in_room (spend_outcome context verdicts)) → spend_outcome context verdicts ≡ decided_by (run_end code elements)
-code_decides laws elements code context verdicts is room = decides elements code (spent_input context).unlocking (spent_input context).locking (are_read laws elements code context is) room
+pub code_decides : Laws
+    → (elements : Stack) (code : List Instr) (context : Transaction (List ℕ)) (verdicts : List verdict.Row)
+    → IsRedeemed elements code context → IsTrue (is_in_room (spend_outcome context verdicts))
+    → spend_outcome context verdicts ≡ decided_by (run_end code elements)
+code_decides laws elements code context verdicts is room =
+    decides elements code (spent_input context).unlocking (spent_input context).locking
+    (are_read laws elements code context is) room

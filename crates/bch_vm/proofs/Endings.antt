@@ -21,7 +21,8 @@ Stays (Passes row rest) = Stays rest
 Stays (Gives a) = Unit {0}
 Stays (Stops outcome) = IsTrue (is_in_room outcome)
 
-pub outcome-ends : {A : Type 0} (c : Course A) (f : A → Course MachineOutcome) → outcome_of (c >>= f) ≡ outcome_of (ends c >>= f)
+pub outcome-ends : {A : Type 0} (c : Course A) (f : A → Course MachineOutcome)
+    → outcome_of (c >>= f) ≡ outcome_of (ends c >>= f)
 outcome-ends (Passes row rest) f = outcome-ends rest f
 outcome-ends (Gives a) f = refl
 outcome-ends (Stops outcome) f = refl
@@ -36,13 +37,15 @@ ends-told which (Ok a) = refl
 ends-told which (Err failure) = refl
 
 -- what is in room at its end has stopped at no limit on the way
-pub stays_before : {A : Type 0} (c : Course A) (f : A → Course MachineOutcome) → IsTrue (is_in_room (outcome_of (c >>= f))) → Stays c
+pub stays_before : {A : Type 0} (c : Course A) (f : A → Course MachineOutcome)
+    → IsTrue (is_in_room (outcome_of (c >>= f))) → Stays c
 stays_before (Passes row rest) f h = stays_before rest f h
 stays_before (Gives a) f h = tt
 stays_before (Stops outcome) f h = h
 
 -- and what has stopped at no limit is in room at its end, where everything behind it is
-pub stays_on : {A : Type 0} (c : Course A) (f : A → Course MachineOutcome) → Stays c → ((a : A) → IsTrue (is_in_room (outcome_of (f a)))) → IsTrue (is_in_room (outcome_of (c >>= f)))
+pub stays_on : {A : Type 0} (c : Course A) (f : A → Course MachineOutcome) → Stays c
+    → ((a : A) → IsTrue (is_in_room (outcome_of (f a)))) → IsTrue (is_in_room (outcome_of (c >>= f)))
 stays_on (Passes row rest) f h behind = stays_on rest f h behind
 stays_on (Gives a) f h behind = behind a
 stays_on (Stops outcome) f h behind = h

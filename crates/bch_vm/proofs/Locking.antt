@@ -33,7 +33,8 @@ push-twenty (a ∷ []) is = absurd (omega (arith, is))
 push-twenty (a ∷ b ∷ more) is = ap (λ n. push_prefix n ++ (a ∷ b ∷ more)) is
 
 pub locking-spelled : (redeem : List ℕ) → locking_script redeem ≡ spellings (locking_code redeem)
-locking-spelled redeem = ap (λ pushed. 0xa9 ∷ (pushed ++ 0x87 ∷ [])) (sym (push-twenty (digest redeem) (length-digest (sha256 redeem))))
+locking-spelled redeem =
+    ap (λ pushed. 0xa9 ∷ (pushed ++ 0x87 ∷ [])) (sym (push-twenty (digest redeem) (length-digest (sha256 redeem))))
 
 pub locking_fit : Laws → (redeem : List ℕ) → AllByRecursion IsFit (locking_code redeem)
 locking_fit laws redeem =
@@ -53,5 +54,9 @@ locking-p2sh redeem =
     ∙ ap (λ b. eqb b 0x87) (last_byte d (length-digest (sha256 redeem)))
 
 -- on the redeem script it leaves a true element
-pub locking_run : (redeem : List ℕ) (elements : Stack) → run (locking_code redeem) (state (redeem ∷ elements) beginning) ≡ Ok (state ((1 ∷ []) ∷ elements) (record { at = 3; last = 2 }))
-locking_run redeem elements = ap (λ same. Ok (state (truth_bytes same ∷ elements) (record { at = 3; last = 2 }))) ((bytes_eq-Decides (digest redeem) (digest redeem)).1 refl)
+pub locking_run : (redeem : List ℕ) (elements : Stack)
+    → run (locking_code redeem) (state (redeem ∷ elements) beginning)
+    ≡ Ok (state ((1 ∷ []) ∷ elements) (record { at = 3; last = 2 }))
+locking_run redeem elements =
+    ap (λ same. Ok (state (truth_bytes same ∷ elements) (record { at = 3; last = 2 })))
+    ((bytes_eq-Decides (digest redeem) (digest redeem)).1 refl)

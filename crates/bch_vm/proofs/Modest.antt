@@ -66,7 +66,8 @@ on_one-modest operation (a ∷ rest) = by_result (operation a)
     by_result (Ok e) = omega arith
     by_result (Err cause) = refl
 
-on_two-modest : (operation : List ℕ → List ℕ → Result (List ℕ) Cause) (stack : Stack) → IsModest stack (on_two operation stack)
+on_two-modest : (operation : List ℕ → List ℕ → Result (List ℕ) Cause) (stack : Stack)
+    → IsModest stack (on_two operation stack)
 on_two-modest operation [] = refl
 on_two-modest operation (b ∷ []) = refl
 on_two-modest operation (b ∷ a ∷ rest) = by_result (operation a b)
@@ -100,13 +101,17 @@ table-modest = (
   ),
 )
 
-either : (stack : Stack) (t : Bool) (a b : Result Stack MachineCause) → IsModest stack a → IsModest stack b → IsModest stack (cond t a b)
+either : (stack : Stack) (t : Bool) (a b : Result Stack MachineCause) → IsModest stack a → IsModest stack b
+    → IsModest stack (cond t a b)
 either stack true a b first second = first
 either stack false a b first second = second
 
-rows-modest : (rows : List (ℕ × Action)) → AllByRecursion IsModestRow rows → (opcode : ℕ) (stack : Stack) → IsModest stack (action_in rows opcode stack)
+rows-modest : (rows : List (ℕ × Action)) → AllByRecursion IsModestRow rows → (opcode : ℕ) (stack : Stack)
+    → IsModest stack (action_in rows opcode stack)
 rows-modest [] all opcode stack = refl
-rows-modest (row ∷ rows) all opcode stack = either stack (eqb row.0 opcode) (row.1 stack) (action_in rows opcode stack) (all.0 stack) (rows-modest rows all.1 opcode stack)
+rows-modest (row ∷ rows) all opcode stack =
+    either stack (eqb row.0 opcode) (row.1 stack) (action_in rows opcode stack) (all.0 stack)
+    (rows-modest rows all.1 opcode stack)
 
 -- ---- moves on the board
 
@@ -114,24 +119,29 @@ abbrev pub IsModestOn : Board → Result Board MachineCause → Type 0
 IsModestOn b (Ok next) = height next ≤ height b + 1
 IsModestOn b (Err cause) = is_limit cause ≡ false
 
-either_on : (b : Board) (t : Bool) (r s : Result Board MachineCause) → IsModestOn b r → IsModestOn b s → IsModestOn b (cond t r s)
+either_on : (b : Board) (t : Bool) (r s : Result Board MachineCause) → IsModestOn b r → IsModestOn b s
+    → IsModestOn b (cond t r s)
 either_on b true r s first second = first
 either_on b false r s first second = second
 
-stack-modest : (b : Board) (r : Result Stack MachineCause) → IsModest b.stack r → IsModestOn b (r >>= λ stack. Ok (board stack b.alternate b.conditions))
+stack-modest : (b : Board) (r : Result Stack MachineCause) → IsModest b.stack r
+    → IsModestOn b (r >>= λ stack. Ok (board stack b.alternate b.conditions))
 stack-modest b (Ok stack) modest = omega (arith, modest)
 stack-modest b (Err cause) modest = modest
 
-opened-modest : (sense : Bool → Bool) (live : Bool) (stack alternate : Stack) (conditions : List Bool) → IsModestOn (board stack alternate conditions) (opened_where live sense (board stack alternate conditions))
+opened-modest : (sense : Bool → Bool) (live : Bool) (stack alternate : Stack) (conditions : List Bool)
+    → IsModestOn (board stack alternate conditions) (opened_where live sense (board stack alternate conditions))
 opened-modest sense false stack alternate conditions = omega arith
 opened-modest sense true [] alternate conditions = refl
 opened-modest sense true (a ∷ rest) alternate conditions = omega arith
 
-flipped-modest : (stack alternate : Stack) (conditions : List Bool) → IsModestOn (board stack alternate conditions) (on_conditions flipped (board stack alternate conditions))
+flipped-modest : (stack alternate : Stack) (conditions : List Bool)
+    → IsModestOn (board stack alternate conditions) (on_conditions flipped (board stack alternate conditions))
 flipped-modest stack alternate [] = refl
 flipped-modest stack alternate (c ∷ conditions) = omega arith
 
-closed-modest : (stack alternate : Stack) (conditions : List Bool) → IsModestOn (board stack alternate conditions) (on_conditions closed (board stack alternate conditions))
+closed-modest : (stack alternate : Stack) (conditions : List Bool)
+    → IsModestOn (board stack alternate conditions) (on_conditions closed (board stack alternate conditions))
 closed-modest stack alternate [] = refl
 closed-modest stack alternate (c ∷ conditions) = omega arith
 
@@ -159,17 +169,21 @@ conditions-modest = (
   ),
 )
 
-moves-modest : (rows : List (ℕ × Move)) → AllByRecursion IsModestMove rows → (opcode : ℕ) (b : Board) → IsModestOn b (move_in rows opcode b)
+moves-modest : (rows : List (ℕ × Move)) → AllByRecursion IsModestMove rows → (opcode : ℕ) (b : Board)
+    → IsModestOn b (move_in rows opcode b)
 moves-modest [] all opcode b = refl
-moves-modest (row ∷ rows) all opcode b = either_on b (eqb row.0 opcode) (row.1 b) (move_in rows opcode b) (all.0 b) (moves-modest rows all.1 opcode b)
+moves-modest (row ∷ rows) all opcode b =
+    either_on b (eqb row.0 opcode) (row.1 b) (move_in rows opcode b) (all.0 b) (moves-modest rows all.1 opcode b)
 
 -- ---- instructions
 
 executed-modest : (live : Bool) (opcode : ℕ) (b : Board) → IsModestOn b (executed_where live opcode b)
-executed-modest true opcode b = stack-modest b (action_in opcode_table opcode b.stack) (rows-modest opcode_table table-modest opcode b.stack)
+executed-modest true opcode b =
+    stack-modest b (action_in opcode_table opcode b.stack) (rows-modest opcode_table table-modest opcode b.stack)
 executed-modest false opcode b = omega arith
 
-disabled-modest : (b : Board) (t : Bool) (r : Result Board MachineCause) → IsModestOn b r → IsModestOn b (refused_if t Disabled >> r)
+disabled-modest : (b : Board) (t : Bool) (r : Result Board MachineCause) → IsModestOn b r
+    → IsModestOn b (refused_if t Disabled >> r)
 disabled-modest b true r modest = refl
 disabled-modest b false r modest = modest
 
@@ -181,4 +195,7 @@ pub instr-modest : (instr : Instr) (b : Board) → IsModestOn b (board_after ins
 instr-modest (Push e) b = pushed-modest (is_live b.conditions) e.items b
 instr-modest (Do opcode) b =
     disabled-modest b (is_disabled opcode.0) (enabled_after opcode.0 b)
-    (either_on b (is_condition opcode.0) (move_in condition_table opcode.0 b) (executed_where (is_live b.conditions) opcode.0 b) (moves-modest condition_table conditions-modest opcode.0 b) (executed-modest (is_live b.conditions) opcode.0 b))
+    (either_on b (is_condition opcode.0) (move_in condition_table opcode.0 b)
+    (executed_where (is_live b.conditions) opcode.0 b)
+    (moves-modest condition_table conditions-modest opcode.0 b)
+    (executed-modest (is_live b.conditions) opcode.0 b))

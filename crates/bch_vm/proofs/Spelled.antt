@@ -11,8 +11,11 @@ use Rattle.script_codec.specs.Reading.{Raw, Piece, Whole, reading, instruction, 
 -- what reading and spelling are to one another, as their crate's laws say
 pub record Laws : Type 0 where
   pub nothing : reading [] ≡ []
-  pub code : (code : List Instr) (rest : List ℕ) → are_instructions code ≡ true → reading (spellings code ++ rest) ≡ map (λ instr. Whole (spelled instr)) code ++ reading rest
-  pub meaning : (instr : Instr) → is_instruction instr ≡ true → (instruction (spelled instr) ≡ instr) × (is_minimal (spelled instr) ≡ true) × (size_of (spelled instr) ≡ length (spelling instr))
+  pub code : (code : List Instr) (rest : List ℕ) → are_instructions code ≡ true
+      → reading (spellings code ++ rest) ≡ map (λ instr. Whole (spelled instr)) code ++ reading rest
+  pub meaning : (instr : Instr) → is_instruction instr ≡ true
+      → (instruction (spelled instr) ≡ instr) × (is_minimal (spelled instr) ≡ true)
+      × (size_of (spelled instr) ≡ length (spelling instr))
 
 abbrev pub pieces_of : List Instr → List Piece
 pieces_of code = map (λ instr. Whole (spelled instr)) code
@@ -31,13 +34,18 @@ pub record IsFit (instr : Instr) : Type 0 where
   pub short : length (spelled instr).pushed ≤ 520
 
 -- code whose size is that of an element
-pub code_fit : Laws → (code : List Instr) → are_instructions code ≡ true → length (spellings code) ≤ 520 → AllByRecursion IsFit code
+pub code_fit : Laws → (code : List Instr) → are_instructions code ≡ true → length (spellings code) ≤ 520
+    → AllByRecursion IsFit code
 code_fit laws [] are size = tt
 code_fit laws (instr ∷ code) are size =
     let parts = and_parts (is_instruction instr) (are_instructions code) are in
     let known = laws.meaning instr parts.0 in
-    let sum : length (spellings (instr ∷ code)) ≡ length (spelling instr) + length (spellings code) = length-append (spelling instr) (spellings code) in
-    (record { meant = known.0; minimal = known.1; short = omega (arith, size, sum, known.2) }, code_fit laws code parts.1 (omega (arith, size, sum)))
+    let sum : length (spellings (instr ∷ code))
+    ≡ length (spelling instr) + length (spellings code) = length-append (spelling instr) (spellings code) in (
+      record { meant = known.0; minimal = known.1; short = omega (arith, size, sum, known.2) },
+      code_fit laws code
+          parts.1 (omega (arith, size, sum)),
+    )
 
 -- ---- pushes of elements
 
@@ -73,13 +81,20 @@ are_pushes (e ∷ es) = are_pushes es
 
 -- a push has an opcode up to 60
 pub push_opcode : (raw : Raw) (e : List ℕ) → instruction raw ≡ push e → ltb 0x60 raw.opcode ≡ false
-push_opcode raw e is = by_tests (leb raw.opcode 0x4e) (eqb raw.opcode 0x4f) (ltb 0x50 raw.opcode && leb raw.opcode 0x60) refl refl refl is
+push_opcode raw e is =
+    by_tests (leb raw.opcode 0x4e) (eqb raw.opcode 0x4f)
+    (ltb 0x50 raw.opcode && leb raw.opcode 0x60) refl refl refl is
   where
     pushes : Instr → Bool
     pushes (Push p) = true
     pushes (Do opcode) = false
 
-    by_tests : (low minus small : Bool) → leb raw.opcode 0x4e ≡ low → eqb raw.opcode 0x4f ≡ minus → (ltb 0x50 raw.opcode && leb raw.opcode 0x60) ≡ small → cond low (push raw.pushed) (cond minus (push (0x81 ∷ [])) (cond small (push ((raw.opcode - 0x50) ∷ [])) (Do (record { 0 = raw.opcode })))) ≡ push e → ltb 0x60 raw.opcode ≡ false
+    by_tests : (low minus small : Bool) → leb raw.opcode 0x4e ≡ low → eqb raw.opcode 0x4f ≡ minus
+        → (ltb 0x50 raw.opcode && leb raw.opcode 0x60) ≡ small
+        → cond low (push raw.pushed)
+        (cond minus (push (0x81 ∷ []))
+        (cond small (push ((raw.opcode - 0x50) ∷ [])) (Do (record { 0 = raw.opcode })))) ≡ push e
+        → ltb 0x60 raw.opcode ≡ false
     by_tests true minus small l m s h = grind (arith, nat_tests, l)
     by_tests false true small l m s h = grind (arith, nat_tests, m)
     by_tests false false true l m s h = grind (arith, nat_tests, s)

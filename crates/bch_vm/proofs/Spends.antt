@@ -26,15 +26,18 @@ use Rattle.bch_vm.proofs.Locking.{locking_code, locking_run}
 -- ---- pushes
 
 -- pushes of elements leave them on the stack
-pushes_run : (es : List (List ℕ)) (stack : Stack) (p : Progress) → (q : Progress) × (run (map push es) (state stack p) ≡ Ok (state (reverse_aux es stack) q))
+pushes_run : (es : List (List ℕ)) (stack : Stack) (p : Progress)
+    → (q : Progress) × (run (map push es) (state stack p) ≡ Ok (state (reverse_aux es stack) q))
 pushes_run [] stack p = (p, refl)
 pushes_run (e ∷ es) stack p = pushes_run es (e ∷ stack) (progress_after (push e) [] p)
 
 -- and are pushes alone
-pushes_pass : (es : List (List ℕ)) (at : ℕ) → AllByRecursion IsFit (map push es) → push_check at (pieces_of (map push es)) ≡ Gives tt
+pushes_pass : (es : List (List ℕ)) (at : ℕ) → AllByRecursion IsFit (map push es)
+    → push_check at (pieces_of (map push es)) ≡ Gives tt
 pushes_pass [] at fit = refl
 pushes_pass (e ∷ es) at fit =
-    ap (λ above. cond above (Stops (Refused Unlocking at NotPushOnly)) (push_check (at + 1) (pieces_of (map push es)))) (push_opcode (spelled (push e)) e fit.0.meant)
+    ap (λ above. cond above (Stops (Refused Unlocking at NotPushOnly))
+    (push_check (at + 1) (pieces_of (map push es)))) (push_opcode (spelled (push e)) e fit.0.meant)
     ∙ pushes_pass es (at + 1) fit.1
 
 -- ---- scripts
@@ -43,9 +46,11 @@ pushes_pass (e ∷ es) at fit =
 abbrev pub course_on : Which → List Piece → Stack → Course State
 course_on which pieces stack = pieces_course which pieces (counted (state stack beginning) 0)
 
-script_read : (which : Which) (script : List ℕ) (pieces : List Piece) (stack : Stack) → length script ≤ 10000 → reading script ≡ pieces → script_course which script stack ≡ course_on which pieces stack
+script_read : (which : Which) (script : List ℕ) (pieces : List Piece) (stack : Stack) → length script ≤ 10000
+    → reading script ≡ pieces → script_course which script stack ≡ course_on which pieces stack
 script_read which script pieces stack size reads =
-    ap (λ long. (cond long (Stops (Refused which 0 ScriptSize)) (Gives tt)) >> course_on which (reading script) stack) (le-ltb 10000 (length script) size)
+    ap (λ long. (cond long (Stops (Refused which 0 ScriptSize)) (Gives tt)) >> course_on which
+    (reading script) stack) (le-ltb 10000 (length script) size)
     ∙ ap (λ ps. course_on which ps stack) reads
 
 -- how the three scripts of a spend are read
@@ -75,14 +80,23 @@ abbrev pub redeem_course : List Instr → Stack → Course State
 redeem_course code elements = course_on Redeem (pieces_of code) elements
 
 -- the pushes alone are run first
-pub begins : (elements : Stack) (code : List Instr) (unlocking locking : List ℕ) (read : AreRead elements code unlocking locking) → scripts_course unlocking locking ≡ (unlocking_course read.pushes >>= behind_unlocking unlocking locking)
+pub begins : (elements : Stack) (code : List Instr) (unlocking locking : List ℕ)
+    (read : AreRead elements code unlocking locking)
+    → scripts_course unlocking locking ≡ (unlocking_course read.pushes >>= behind_unlocking unlocking locking)
 begins elements code unlocking locking read =
-    ap (λ pieces. push_check 0 pieces >> (script_course Unlocking unlocking [] >>= behind_unlocking unlocking locking)) read.unlocking_read
-    ∙ ap (λ checked. checked >> (script_course Unlocking unlocking [] >>= behind_unlocking unlocking locking)) (pushes_pass read.pushes 0 read.unlocking_fit)
-    ∙ ap (λ course. course >>= behind_unlocking unlocking locking) (script_read Unlocking unlocking (pieces_of (map push read.pushes)) [] read.unlocking_size read.unlocking_read)
+    ap (λ pieces. push_check 0 pieces >>
+    (script_course Unlocking unlocking [] >>= behind_unlocking unlocking locking)) read.unlocking_read
+    ∙ ap (λ checked. checked >> (script_course Unlocking unlocking [] >>= behind_unlocking unlocking locking))
+    (pushes_pass read.pushes 0 read.unlocking_fit)
+    ∙ ap (λ course. course >>= behind_unlocking unlocking locking)
+    (script_read Unlocking unlocking
+    (pieces_of (map push read.pushes)) [] read.unlocking_size read.unlocking_read)
 
 -- they leave the redeem script on the elements
-unlocking_ends : (elements : Stack) (code : List Instr) (unlocking locking : List ℕ) (read : AreRead elements code unlocking locking) → Stays (unlocking_course read.pushes) → (q : Progress) × (ends (unlocking_course read.pushes) ≡ Gives (state (spellings code ∷ elements) q))
+unlocking_ends : (elements : Stack) (code : List Instr) (unlocking locking : List ℕ)
+    (read : AreRead elements code unlocking locking)
+    → Stays (unlocking_course read.pushes)
+    → (q : Progress) × (ends (unlocking_course read.pushes) ≡ Gives (state (spellings code ∷ elements) q))
 unlocking_ends elements code unlocking locking read stays =
     let left = pushes_run read.pushes [] beginning in (
       left.0,
@@ -91,31 +105,48 @@ unlocking_ends elements code unlocking locking read stays =
           ∙ ap (λ (stack : Stack). Gives (state stack left.0)) read.pushed,
     )
 
-left_is : (elements : Stack) (code : List Instr) (unlocking locking : List ℕ) (read : AreRead elements code unlocking locking) → Stays (unlocking_course read.pushes) → stack_left unlocking ≡ spellings code ∷ elements
+left_is : (elements : Stack) (code : List Instr) (unlocking locking : List ℕ)
+    (read : AreRead elements code unlocking locking)
+    → Stays (unlocking_course read.pushes) → stack_left unlocking ≡ spellings code ∷ elements
 left_is elements code unlocking locking read stays =
-    ap given_stack (script_read Unlocking unlocking (pieces_of (map push read.pushes)) [] read.unlocking_size read.unlocking_read)
+    ap given_stack (script_read Unlocking unlocking
+    (pieces_of (map push read.pushes)) [] read.unlocking_size read.unlocking_read)
     ∙ given-ends (unlocking_course read.pushes)
     ∙ ap given_stack (unlocking_ends elements code unlocking locking read stays).1
 
 -- then comes the locking script
-pub unlocked : (elements : Stack) (code : List Instr) (unlocking locking : List ℕ) (read : AreRead elements code unlocking locking) → Stays (unlocking_course read.pushes)
-    → outcome_of (unlocking_course read.pushes >>= behind_unlocking unlocking locking) ≡ outcome_of (locking_course (spellings code) elements >>= behind_locking unlocking locking)
+pub unlocked : (elements : Stack) (code : List Instr) (unlocking locking : List ℕ)
+    (read : AreRead elements code unlocking locking)
+    → Stays (unlocking_course read.pushes)
+    → outcome_of (unlocking_course read.pushes >>= behind_unlocking unlocking locking)
+    ≡ outcome_of (locking_course (spellings code) elements >>= behind_locking unlocking locking)
 unlocked elements code unlocking locking read stays =
     outcome-ends (unlocking_course read.pushes) (behind_unlocking unlocking locking)
-    ∙ ap (λ course. outcome_of (course >>= behind_unlocking unlocking locking)) (unlocking_ends elements code unlocking locking read stays).1
-    ∙ ap (λ course. outcome_of (course >>= behind_locking unlocking locking)) (script_read Locking locking (pieces_of (locking_code (spellings code))) (spellings code ∷ elements) read.locking_size read.locking_read)
+    ∙ ap (λ course. outcome_of (course >>= behind_unlocking unlocking locking))
+    (unlocking_ends elements code unlocking locking read stays).1
+    ∙ ap (λ course. outcome_of (course >>= behind_locking unlocking locking))
+    (script_read Locking locking (pieces_of (locking_code (spellings code)))
+    (spellings code ∷ elements) read.locking_size read.locking_read)
 
 -- which is met, so that the redeem script comes
-pub unlocked_twice : (elements : Stack) (code : List Instr) (unlocking locking : List ℕ) (read : AreRead elements code unlocking locking) → Stays (unlocking_course read.pushes) → Stays (locking_course (spellings code) elements)
-    → outcome_of (locking_course (spellings code) elements >>= behind_locking unlocking locking) ≡ outcome_of (redeem_course code elements >>= behind_redeem)
+pub unlocked_twice : (elements : Stack) (code : List Instr) (unlocking locking : List ℕ)
+    (read : AreRead elements code unlocking locking)
+    → Stays (unlocking_course read.pushes) → Stays (locking_course (spellings code) elements)
+    → outcome_of (locking_course (spellings code) elements >>= behind_locking unlocking locking)
+    ≡ outcome_of (redeem_course code elements >>= behind_redeem)
 unlocked_twice elements code unlocking locking read stays locked =
     let redeem = spellings code in
     outcome-ends (locking_course redeem elements) (behind_locking unlocking locking)
-    ∙ ap (λ course. outcome_of (course >>= behind_locking unlocking locking)) (code_runs Locking (locking_code redeem) (counted (state (redeem ∷ elements) beginning) 0) read.locking_fit locked)
+    ∙ ap (λ course. outcome_of (course >>= behind_locking unlocking locking))
+    (code_runs Locking (locking_code redeem)
+    (counted (state (redeem ∷ elements) beginning) 0) read.locking_fit locked)
     ∙ ap (λ r. outcome_of (told Locking (closed r) >>= behind_locking unlocking locking)) (locking_run redeem elements)
-    ∙ ap (λ is. outcome_of (cond is (redeemed 2 (stack_left unlocking)) (Stops (clean Locking 2 ((1 ∷ []) ∷ elements))))) read.locking_p2sh
+    ∙ ap (λ is. outcome_of
+    (cond is (redeemed 2 (stack_left unlocking)) (Stops (clean Locking 2 ((1 ∷ []) ∷ elements)))))
+    read.locking_p2sh
     ∙ ap (λ stack. outcome_of (redeemed 2 stack)) (left_is elements code unlocking locking read stays)
-    ∙ ap (λ course. outcome_of (course >>= behind_redeem)) (script_read Redeem redeem (pieces_of code) elements read.redeem_size read.redeem_read)
+    ∙ ap (λ course. outcome_of (course >>= behind_redeem))
+    (script_read Redeem redeem (pieces_of code) elements read.redeem_size read.redeem_read)
 
 -- ---- the redeem script
 
@@ -124,8 +155,11 @@ told-decided (Ok end) = refl
 told-decided (Err failure) = refl
 
 -- whose run decides
-pub redeemed_runs : (elements : Stack) (code : List Instr) → AllByRecursion IsFit code → Stays (redeem_course code elements) → outcome_of (redeem_course code elements >>= behind_redeem) ≡ decided_by (run_end code elements)
+pub redeemed_runs : (elements : Stack) (code : List Instr) → AllByRecursion IsFit code
+    → Stays (redeem_course code elements)
+    → outcome_of (redeem_course code elements >>= behind_redeem) ≡ decided_by (run_end code elements)
 redeemed_runs elements code fit stays =
     outcome-ends (redeem_course code elements) behind_redeem
-    ∙ ap (λ course. outcome_of (course >>= behind_redeem)) (code_runs Redeem code (counted (state elements beginning) 0) fit stays)
+    ∙ ap (λ course. outcome_of (course >>= behind_redeem))
+    (code_runs Redeem code (counted (state elements beginning) 0) fit stays)
     ∙ told-decided (run_end code elements)

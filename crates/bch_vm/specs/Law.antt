@@ -22,8 +22,8 @@ use Rattle.bch_vm.specs.Spend.{spent_input, behind_redeem}
 
 -- ---- the two scripts
 
--- The minimal pushes of the elements, the last of the list first, so that the first ends up on top, and then the minimal
--- push of the redeem script.
+-- The minimal pushes of the elements, the last of the list first, so that the first ends up on top, and then the
+-- minimal push of the redeem script.
 abbrev pub unlocking_script : Stack → List ℕ → List ℕ
 unlocking_script elements redeem = spellings (map push (reverse elements) ++ push redeem ∷ [])
 
@@ -41,16 +41,17 @@ pub record IsRedeemed (elements : Stack) (code : List Instr) (context : Transact
   pub unlocking : (spent_input context).unlocking ≡ unlocking_script elements (spellings code)
   pub locking : (spent_input context).locking ≡ locking_script (spellings code)
 
--- They stay within the limits of the machine, whatever is run: at most 1,000 elements on the stacks, since each instruction
--- adds one at most and the locking script has three, and at most 201 opcodes that count.
+-- They stay within the limits of the machine, whatever is run: at most 1,000 elements on the stacks, since each
+-- instruction adds one at most, the redeem script is one and the locking script has three instructions; and at most 201
+-- opcodes that count.
 pub record IsSmall (elements : Stack) (code : List Instr) : Type 0 where
   pub height : length elements + length code ≤ 996
   pub opcodes : counted_in (reading (spellings code)) ≤ 201
 
 -- ---- what decides
 
--- The end of the run decides as the end of a redeem script: it is accepted where one element is left, which is true, and
--- otherwise refused by what is left. A failure of the run is that of the redeem script, with its index and cause.
+-- The end of the run decides as the end of a redeem script: it is accepted where one element is left, which is true,
+-- and otherwise refused by what is left. A failure of the run is that of the redeem script, with its index and cause.
 abbrev pub decided_by : Result State Failure → MachineOutcome
 decided_by (Ok end) = outcome_of (behind_redeem end)
 decided_by (Err failure) = Refused Redeem failure.at failure.cause
