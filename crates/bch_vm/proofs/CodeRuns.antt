@@ -1,17 +1,17 @@
 -- Spelled code in a script goes as the run of its instructions, if it stops at no limit.
-use Rattle.std.proofs.Common.{◌≡◌, ℕ, Bool, true, false, nat_lt, List, [], ◌∷◌, Result, Ok, Err, IsTrue, refl, sym, ap, ◌∙◌, subst}
+use Rattle.std.proofs.Common.{◌≡◌, ℕ, Bool, true, false, nat_lt, List, [], ◌∷◌, Result, Ok, Err, refl, sym, subst}
 use Rattle.std.specs.List.{AllByRecursion}
 use Rattle.std.proofs.lemmas.Bool.{false≢true}
 use Rattle.cash_base.specs.declared.fault.MachineCause.{MachineCause}
 use Rattle.script_codec.specs.declared.instr.Instr.{Instr}
-use Rattle.script_codec.specs.Reading.{Raw, Piece, Whole, spelled}
+use Rattle.script_codec.specs.Reading.{Piece, Whole, spelled}
 use Rattle.bch_vm.specs.declared.outcome.Which.{Which}
 use Rattle.bch_vm.specs.Board.{Board, height, board_after}
-use Rattle.bch_vm.specs.Script.{State, state_of, run, Counted, counted, Progress, progress_after, raw_after, piece_after, balanced}
-use Rattle.bch_vm.specs.Course.{Course, Passes, Gives, Stops, ◌>>=◌}
+use Rattle.bch_vm.specs.Script.{State, state_of, run, Counted, counted, Progress, progress_after, piece_after, balanced}
+use Rattle.bch_vm.specs.Course.{Course, ◌>>=◌}
 use Rattle.bch_vm.specs.Spend.{told, step_course, pieces_course}
 use Rattle.bch_vm.proofs.Endings.{ends, Stays, ends-told}
-use Rattle.bch_vm.proofs.Checked.{checked, checked_after, count_behind, raw-checked, closed, under, ran_from}
+use Rattle.bch_vm.proofs.Checked.{checked, count_behind, raw-checked, closed, under, ran_from}
 use Rattle.bch_vm.proofs.Spelled.{IsFit, pieces_of}
 
 -- an instruction that passes its checks but for those of the limits, and the code behind it

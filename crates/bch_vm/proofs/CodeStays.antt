@@ -4,14 +4,13 @@ use Rattle.std.specs.List.{AllByRecursion}
 use Rattle.std.proofs.lemmas.Bool.{false≢true, le-ltb}
 use Rattle.cash_base.specs.declared.fault.MachineCause.{MachineCause}
 use Rattle.script_codec.specs.declared.instr.Instr.{Instr}
-use Rattle.script_codec.specs.Reading.{Raw, Piece, Whole, spelled, push}
+use Rattle.script_codec.specs.Reading.{Piece, Whole, spelled, push}
 use Rattle.script_codec.specs.Counting.{weight, keys_for, keys_pushed, counted_in}
 use Rattle.bch_vm.specs.declared.outcome.Which.{Which}
 use Rattle.bch_vm.specs.Board.{Board, height, board_after}
 use Rattle.bch_vm.specs.Script.{State, state_of, Counted, counted, Progress, progress_after, piece_after, balanced}
-use Rattle.bch_vm.specs.Course.{Course, Passes, Gives, Stops, ◌>>=◌}
+use Rattle.bch_vm.specs.Course.{Course, ◌>>=◌}
 use Rattle.bch_vm.specs.Spend.{told, step_course, pieces_course}
-use Rattle.bch_vm.specs.Law.{is_limit}
 use Rattle.bch_vm.proofs.Endings.{Stays}
 use Rattle.bch_vm.proofs.Checked.{checked, count_behind, raw-checked, under}
 use Rattle.bch_vm.proofs.Spelled.{IsFit, pieces_of, push_opcode}

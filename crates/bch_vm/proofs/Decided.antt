@@ -11,7 +11,7 @@ use Rattle.script_codec.specs.Spelling.{spellings}
 use Rattle.script_codec.specs.Reading.{reading, push}
 use Rattle.bch_vm.specs.Stack.{Stack}
 use Rattle.bch_vm.specs.Script.{run_end}
-use Rattle.bch_vm.specs.Course.{◌>>=◌, outcome_of}
+use Rattle.bch_vm.specs.Course.{outcome_of}
 use Rattle.bch_vm.specs.Spend.{is_p2sh, behind_redeem, behind_locking, behind_unlocking, scripts_course, spent_input, spend_outcome}
 use Rattle.bch_vm.specs.Law.{IsRedeemed, decided_by, is_in_room}
 use Rattle.bch_vm.proofs.Endings.{Stays, stays_before}

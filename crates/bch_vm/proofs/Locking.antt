@@ -1,5 +1,5 @@
 -- The locking script of a redeem script: how it is read, and what it leaves.
-use Rattle.std.proofs.Common.{◌≡◌, ℕ, ◌+◌, ◌≤◌, Bool, true, eqb, ◌&&◌, List, [], ◌∷◌, ◌++◌, length, get_or, Ok, refl, sym, ap, ◌∙◌, arith, length-append}
+use Rattle.std.proofs.Common.{◌≡◌, ℕ, true, eqb, ◌&&◌, List, [], ◌∷◌, ◌++◌, length, get_or, Ok, refl, sym, ap, ◌∙◌, arith, length-append}
 use Rattle.std.proofs.Math.Seq.{get_or-append_seam}
 use Rattle.std.proofs.lemmas.Slice.Eq.{bytes_eq-Decides}
 use Rattle.std.specs.List.{AllByRecursion}
@@ -7,11 +7,11 @@ use Rattle.ripemd160.specs.Ripemd160.{ripemd160}
 use Rattle.sha2.specs.Sha256.{sha256}
 use Rattle.element_ops.specs.Operand.{truth_bytes}
 use Rattle.script_codec.specs.declared.instr.Instr.{Instr}
-use Rattle.script_codec.specs.declared.instr.Instr.TheVariants.{Push, Do}
+use Rattle.script_codec.specs.declared.instr.Instr.TheVariants.{Do}
 use Rattle.script_codec.specs.Spelling.{push_prefix, minimal_push, spellings}
 use Rattle.script_codec.specs.Reading.{push}
 use Rattle.bch_vm.specs.Stack.{Stack}
-use Rattle.bch_vm.specs.Script.{run, state, beginning, Progress}
+use Rattle.bch_vm.specs.Script.{run, state, beginning}
 use Rattle.bch_vm.specs.Spend.{is_p2sh}
 use Rattle.bch_vm.specs.Law.{locking_script}
 use Rattle.bch_vm.proofs.Spelled.{Laws, IsFit, push_fit, do_fit}

@@ -1,5 +1,5 @@
 -- An instruction adds at most one element, and its own failures are none of the limits.
-use Rattle.std.proofs.Common.{◌≡◌, ℕ, ◌+◌, ◌≤◌, Bool, true, false, not, eqb, cond, List, [], ◌∷◌, length, pos, negsuc, ℤ, slice_get, Option, Some, None, Result, Ok, Err, refl, ap, arith}
+use Rattle.std.proofs.Common.{◌≡◌, ℕ, ◌+◌, ◌≤◌, Bool, true, false, not, eqb, cond, List, [], ◌∷◌, length, pos, negsuc, ℤ, slice_get, Option, Some, None, Result, Ok, Err, refl, arith}
 use Rattle.std.specs.List.{AllByRecursion}
 use Rattle.cash_base.specs.declared.fault.Cause.{Cause}
 use Rattle.cash_base.specs.declared.fault.MachineCause.{MachineCause}
@@ -13,8 +13,8 @@ use Rattle.element_ops.specs.Operation.{result1, result2}
 use Rattle.script_codec.specs.declared.instr.Instr.{Instr}
 use Rattle.script_codec.specs.declared.instr.Instr.TheVariants.{Push, Do}
 use Rattle.bch_vm.specs.Stack.{Stack, Action, shared, on_one, on_two}
-use Rattle.bch_vm.specs.Opcode.{unchanged, nipped, element_or_underflow, copied, copied_at, picked, action_in, opcode_table}
-use Rattle.bch_vm.specs.Board.{Board, board, Move, height, is_live, on_stack, opened_where, opened, flipped, closed, on_conditions, nowhere, condition_table, is_condition, move_in, is_disabled, executed_where, enabled_after, opcode_after, pushed_where, board_after}
+use Rattle.bch_vm.specs.Opcode.{unchanged, nipped, element_or_underflow, copied_at, picked, action_in, opcode_table}
+use Rattle.bch_vm.specs.Board.{Board, board, Move, height, is_live, opened_where, flipped, closed, on_conditions, condition_table, is_condition, move_in, is_disabled, executed_where, enabled_after, pushed_where, board_after}
 use Rattle.bch_vm.specs.Law.{is_limit}
 
 -- ---- actions on the stack

@@ -1,5 +1,5 @@
 -- A spend of code as a redeem script is in room, where the code and the elements are small.
-use Rattle.std.proofs.Common.{◌≡◌, ℕ, ◌+◌, ◌≤◌, Bool, true, false, cond, List, [], ◌∷◌, length, map, IsTrue, refl, sym, ap, ◌∙◌, subst, arith}
+use Rattle.std.proofs.Common.{ℕ, ◌+◌, ◌≤◌, Bool, true, false, cond, List, [], ◌∷◌, length, map, IsTrue, refl, sym, ap, ◌∙◌, subst, arith}
 use Rattle.std.proofs.lemmas.List.{length-map, length-reverse}
 use Rattle.cash_base.specs.declared.fault.MachineCause.TheVariants.{EndFalse}
 use Rattle.cash_base.specs.Number.{truth_of}
@@ -14,8 +14,8 @@ use Rattle.bch_vm.specs.declared.outcome.MachineOutcome.TheVariants.{Refused}
 use Rattle.bch_vm.specs.Stack.{Stack}
 use Rattle.bch_vm.specs.Script.{State, state, state_of, beginning, counted}
 use Rattle.bch_vm.specs.Board.{board}
-use Rattle.bch_vm.specs.Course.{Course, Gives, Stops, ◌>>=◌, ◌>>◌, outcome_of}
-use Rattle.bch_vm.specs.Spend.{behind_redeem, behind_locking, behind_unlocking, clean, scripts_course, spent_input, spend_outcome}
+use Rattle.bch_vm.specs.Course.{Course, Gives, Stops, ◌>>◌, outcome_of}
+use Rattle.bch_vm.specs.Spend.{behind_redeem, clean, scripts_course, spent_input, spend_outcome}
 use Rattle.bch_vm.specs.Law.{IsRedeemed, IsSmall, is_in_room}
 use Rattle.bch_vm.proofs.Endings.{Stays, stays_on}
 use Rattle.bch_vm.proofs.Spelled.{Laws}

@@ -1,5 +1,5 @@
 -- A spend of code as a redeem script comes to the run of the code.
-use Rattle.std.proofs.Common.{◌≡◌, ℕ, ◌+◌, ◌≤◌, Bool, true, nat_lt, cond, List, [], ◌∷◌, ◌++◌, length, map, reverse, Result, Ok, Err, refl, sym, ap, ◌∙◌, arith}
+use Rattle.std.proofs.Common.{◌≡◌, ℕ, ◌+◌, ◌≤◌, true, cond, List, [], ◌∷◌, length, map, reverse, Result, Ok, Err, refl, ap, ◌∙◌}
 use Rattle.std.proofs.lemmas.Bool.{le-ltb}
 use Rattle.std.specs.List.{AllByRecursion}
 use mathlib.Core.List.{reverse_aux}
@@ -9,17 +9,16 @@ use Rattle.script_codec.specs.Reading.{Piece, reading, spelled, push}
 use Rattle.bch_vm.specs.declared.failure.Failure.{Failure}
 use Rattle.bch_vm.specs.declared.outcome.Which.{Which}
 use Rattle.bch_vm.specs.declared.outcome.Which.TheVariants.{Unlocking, Locking, Redeem}
-use Rattle.bch_vm.specs.declared.outcome.MachineOutcome.{MachineOutcome}
 use Rattle.bch_vm.specs.declared.outcome.MachineOutcome.TheVariants.{Refused}
 use Rattle.cash_base.specs.declared.fault.MachineCause.TheVariants.{NotPushOnly, ScriptSize}
 use Rattle.bch_vm.specs.Stack.{Stack}
 use Rattle.bch_vm.specs.Script.{State, state, beginning, run, run_end, Progress, progress_after, counted}
 use Rattle.bch_vm.specs.Course.{Course, Gives, Stops, ◌>>=◌, ◌>>◌, outcome_of}
-use Rattle.bch_vm.specs.Spend.{told, pieces_course, sized, script_course, push_check, given_stack, stack_left, is_p2sh, redeemed, clean, behind_redeem, behind_locking, behind_unlocking, scripts_course}
+use Rattle.bch_vm.specs.Spend.{told, pieces_course, script_course, push_check, given_stack, stack_left, is_p2sh, redeemed, clean, behind_redeem, behind_locking, behind_unlocking, scripts_course}
 use Rattle.bch_vm.specs.Law.{decided_by}
 use Rattle.bch_vm.proofs.Endings.{ends, Stays, outcome-ends, given-ends}
 use Rattle.bch_vm.proofs.Checked.{closed}
-use Rattle.bch_vm.proofs.Spelled.{Laws, IsFit, pieces_of, push_opcode}
+use Rattle.bch_vm.proofs.Spelled.{IsFit, pieces_of, push_opcode}
 use Rattle.bch_vm.proofs.CodeRuns.{code_runs}
 use Rattle.bch_vm.proofs.Locking.{locking_code, locking_run}
 
