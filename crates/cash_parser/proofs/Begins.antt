@@ -74,7 +74,8 @@ begins (reverse_call word d s o c {a = a} q h) = before is_plain a _ (begins h)
 begins (split_call word d s o c {a = a} q h at) = before is_plain a _ (begins h)
 begins (index n o s c {a = a} h) = before is_plain a _ (begins h)
 begins (no_sign {a = a} d) = plain_first a (begins d)
-begins (sign t op q d) = or_right (is_plain t.symbol) (is_some (signs t.symbol)) (ap (λ (o : Option UnaryOp). is_some o) q)
+begins (sign t op q d) =
+    or_right (is_plain t.symbol) (is_some (signs t.symbol)) (ap (λ (o : Option UnaryOp). is_some o) q)
 begins (no_operator d) = begins d
 begins (tighter d) = begins d
 begins (operator k t op {a = a} {b = b} j d d') = before is_first a (t ∷ b) (begins d)

@@ -18,26 +18,38 @@ use Rattle.cash_parser.proofs.FileSound.{file_unrolled, file_sound_of}
 complete_params : {a : List Lexeme} {ps : List (Param Span)} → SpellsParams a ps → (c : Span) (rest : List Lexeme)
     → file_reading params (a ++ (mark (codes ")") c ∷ rest)) ≡ Some ((ps, c), rest)
 complete_params no_param = λ c rest. file_unrolled params (mark (codes ")") c ∷ rest)
-complete_params (last_param {ty = ty} {s = s} {word = word} p) = λ c rest. file_unrolled params (lex (Type_ ty) s ∷ lex (Name word) p ∷ mark (codes ")") c ∷ rest)
+complete_params (last_param {ty = ty} {s = s} {word = word} p) =
+    λ c rest. file_unrolled params (lex (Type_ ty) s ∷ lex (Name word) p ∷ mark (codes ")") c ∷ rest)
 complete_params (next_param {ty = ty} {s = s} {word = word} p m {a = a} d) = λ c rest.
-    file_unrolled params (lex (Type_ ty) s ∷ lex (Name word) p ∷ mark (codes ",") m ∷ (a ++ (mark (codes ")") c ∷ rest))) ∙ rw (complete_params d c rest) refl
+    file_unrolled params (lex (Type_ ty) s ∷ lex (Name word) p ∷ mark (codes ",") m ∷
+    (a ++ (mark (codes ")") c ∷ rest))) ∙ rw (complete_params d c rest) refl
 
 complete_functions : {a : List Lexeme} {fs : List FunctionTree} → SpellsFunctions a fs
     → (c : Span) (rest : List Lexeme) → file_reading functions (a ++ (mark (codes "}") c ∷ rest)) ≡ Some ((fs, c), rest)
 complete_functions no_function = λ c rest. file_unrolled functions (mark (codes "}") c ∷ rest)
 complete_functions (one_function {word = word} f n o c b z {a = a} {d = d} {more = more} ps ss fs) = λ end rest.
     let last : List Lexeme = mark (codes "}") end ∷ rest in
-    let g : (a ++ (mark (codes ")") c ∷ mark (codes "{") b ∷ (d ++ (mark (codes "}") z ∷ more)))) ++ last ≡ a ++ (mark (codes ")") c ∷ mark (codes "{") b ∷ (d ++ (mark (codes "}") z ∷ (more ++ last)))) =
+    let g : (a ++ (mark (codes ")") c ∷ mark (codes "{") b ∷ (d ++ (mark (codes "}") z ∷ more)))) ++ last ≡ a ++
+    (mark (codes ")") c ∷ mark (codes "{") b ∷ (d ++ (mark (codes "}") z ∷ (more ++ last)))) =
     append_assoc a (mark (codes ")") c ∷ mark (codes "{") b ∷ (d ++ (mark (codes "}") z ∷ more))) last
-    ∙ ap (λ (y : List Lexeme). a ++ (mark (codes ")") c ∷ mark (codes "{") b ∷ y)) (append_assoc d (mark (codes "}") z ∷ more) last) in
-    file_unrolled functions (mark (codes "function") f ∷ lex (Name word) n ∷ mark (codes "(") o ∷ ((a ++ (mark (codes ")") c ∷ mark (codes "{") b ∷ (d ++ (mark (codes "}") z ∷ more)))) ++ last))
-    ∙ rw (g, complete_params ps c (mark (codes "{") b ∷ (d ++ (mark (codes "}") z ∷ (more ++ last)))), complete_run ss z (more ++ last), complete_functions fs end rest) refl
+    ∙ ap (λ (y : List Lexeme). a ++ (mark (codes ")") c ∷ mark (codes "{") b ∷ y))
+    (append_assoc d (mark (codes "}") z ∷ more) last) in
+    file_unrolled functions (mark (codes "function") f ∷ lex (Name word) n ∷ mark (codes "(") o ∷
+    ((a ++ (mark (codes ")") c ∷ mark (codes "{") b ∷ (d ++ (mark (codes "}") z ∷ more)))) ++ last))
+    ∙ rw (
+      g,
+      complete_params ps c (mark (codes "{") b ∷ (d ++ (mark (codes "}") z ∷ (more ++ last)))),
+      complete_run ss
+          z (more ++ last),
+      complete_functions fs end rest,
+    ) refl
 
 -- ---- pragmas
 
 sign_not : (text other : List ℕ) (b : Bool) → is_text text other ≡ b → is_constraint_sign other ≡ false
     → is_constraint_sign text ≡ true → b ≡ false
-sign_not text other true e here there = absurd (false≢true (sym here ∙ ap is_constraint_sign (sym (text_is text other e)) ∙ there))
+sign_not text other true e here there =
+    absurd (false≢true (sym here ∙ ap is_constraint_sign (sym (text_is text other e)) ∙ there))
 sign_not text other false e here there = refl
 
 -- a constraint, and the first of its lexemes isn't `;`
@@ -71,19 +83,31 @@ two_read {b = b} {k = k} {l = l} d d' w z rest =
 complete_file : {a : List Lexeme} {tree : Tree} → SpellsFile a tree → (rest : List Lexeme)
     → file_reading file (a ++ rest) ≡ Some (tree, rest)
 complete_file (contract {word = word} k n o c b z {a = a} {d = d} ps fs) = λ rest.
-    let g : (a ++ (mark (codes ")") c ∷ mark (codes "{") b ∷ (d ++ (mark (codes "}") z ∷ [])))) ++ rest ≡ a ++ (mark (codes ")") c ∷ mark (codes "{") b ∷ (d ++ (mark (codes "}") z ∷ rest))) =
+    let g : (a ++ (mark (codes ")") c ∷ mark (codes "{") b ∷ (d ++ (mark (codes "}") z ∷ [])))) ++ rest ≡ a ++
+    (mark (codes ")") c ∷ mark (codes "{") b ∷ (d ++ (mark (codes "}") z ∷ rest))) =
     append_assoc a (mark (codes ")") c ∷ mark (codes "{") b ∷ (d ++ (mark (codes "}") z ∷ []))) rest
-    ∙ ap (λ (y : List Lexeme). a ++ (mark (codes ")") c ∷ mark (codes "{") b ∷ y)) (append_assoc d (mark (codes "}") z ∷ []) rest) in
-    file_unrolled file (mark (codes "contract") k ∷ lex (Name word) n ∷ mark (codes "(") o ∷ ((a ++ (mark (codes ")") c ∷ mark (codes "{") b ∷ (d ++ (mark (codes "}") z ∷ [])))) ++ rest))
-    ∙ rw (g, complete_params ps c (mark (codes "{") b ∷ (d ++ (mark (codes "}") z ∷ rest))), complete_functions fs z rest) refl
+    ∙ ap (λ (y : List Lexeme). a ++ (mark (codes ")") c ∷ mark (codes "{") b ∷ y))
+    (append_assoc d (mark (codes "}") z ∷ []) rest) in
+    file_unrolled file (mark (codes "contract") k ∷ lex (Name word) n ∷ mark (codes "(") o ∷
+    ((a ++ (mark (codes ")") c ∷ mark (codes "{") b ∷ (d ++ (mark (codes "}") z ∷ [])))) ++ rest))
+    ∙ rw (
+      g,
+      complete_params ps c (mark (codes "{") b ∷ (d ++ (mark (codes "}") z ∷ rest))),
+      complete_functions fs z
+          rest,
+    ) refl
 complete_file (one_constraint p w z {a = a} {more = more} d t) = λ rest.
-    let g : (a ++ (mark (codes ";") z ∷ more)) ++ rest ≡ a ++ (mark (codes ";") z ∷ (more ++ rest)) = append_assoc a (mark (codes ";") z ∷ more) rest in
-    file_unrolled file (mark (codes "pragma") p ∷ mark (codes "cashscript") w ∷ ((a ++ (mark (codes ";") z ∷ more)) ++ rest))
+    let g : (a ++ (mark (codes ";") z ∷ more)) ++ rest ≡ a ++ (mark (codes ";") z ∷ (more ++ rest)) = append_assoc a
+    (mark (codes ";") z ∷ more) rest in
+    file_unrolled file (mark (codes "pragma") p ∷ mark (codes "cashscript") w ∷
+    ((a ++ (mark (codes ";") z ∷ more)) ++ rest))
     ∙ rw (g, one_read d w z (more ++ rest), complete_file t rest) refl
 complete_file (two_constraints p w z {a = a} {b = b} {more = more} d d' t) = λ rest.
     let g : (a ++ (b ++ (mark (codes ";") z ∷ more))) ++ rest ≡ a ++ (b ++ (mark (codes ";") z ∷ (more ++ rest))) =
-    append_assoc a (b ++ (mark (codes ";") z ∷ more)) rest ∙ ap (λ (y : List Lexeme). a ++ y) (append_assoc b (mark (codes ";") z ∷ more) rest) in
-    file_unrolled file (mark (codes "pragma") p ∷ mark (codes "cashscript") w ∷ ((a ++ (b ++ (mark (codes ";") z ∷ more))) ++ rest))
+    append_assoc a (b ++ (mark (codes ";") z ∷ more)) rest ∙ ap (λ (y : List Lexeme). a ++ y)
+    (append_assoc b (mark (codes ";") z ∷ more) rest) in
+    file_unrolled file (mark (codes "pragma") p ∷ mark (codes "cashscript") w ∷
+    ((a ++ (b ++ (mark (codes ";") z ∷ more))) ++ rest))
     ∙ rw (g, two_read d d' w z (more ++ rest), complete_file t rest) refl
 
 -- ---- all of the lexemes
@@ -101,7 +125,8 @@ tree_found ts tree q =
 tree_again : (ts : List Lexeme) (tree : Tree) → SpellsFile ts tree → tree_of ts ≡ Some tree
 unfolding tree_of
 tree_again ts tree d =
-    let read : file_reading file ts ≡ Some (tree, []) = subst (λ (z : List Lexeme). file_reading file z ≡ Some (tree, [])) (append-nil ts) (complete_file d []) in
+    let read : file_reading file ts ≡ Some (tree, []) = subst
+    (λ (z : List Lexeme). file_reading file z ≡ Some (tree, [])) (append-nil ts) (complete_file d []) in
     rw read refl
 
 pub tree_none : (ts : List Lexeme) → tree_of ts ≡ None → (tree : Tree) → SpellsFile ts tree → ⊥

@@ -25,7 +25,9 @@ version_is symbol u e = absurd cc
 
 takes_version : (ts : List Lexeme) (x : (Unit {0} × Span) × List Lexeme) → taken version_value ts ≡ Some x
     → Takes ts (lex Version x.0.1 ∷ []) x.1
-takes_version ts x e = let h = taken_is version_value ts x e in record { parts = h.parts ∙ ap (λ (s : Symbol). lex s x.0.1 ∷ x.1) (version_is h.symbol x.0.0 h.is) }
+takes_version ts x e =
+    let h = taken_is version_value ts x e in
+    record { parts = h.parts ∙ ap (λ (s : Symbol). lex s x.0.1 ∷ x.1) (version_is h.symbol x.0.0 h.is) }
 
 -- a sign of a constraint that was taken
 pub record Signed (ts : List Lexeme) (x : (List ℕ × Span) × List Lexeme) : Type 0 where
@@ -56,10 +58,15 @@ constraint_found ts (Some s) x at q =
     let v = bind_some _ _ x q in
     let h = takes_sign ts s at in
     subst (λ (z : Constraint × List Lexeme). Constrained ts z) (some_is v.2)
-    (record { a = mark h.text s.0.1 ∷ lex Version v.0.0.1 ∷ []; takes = joint h.takes (takes_version s.1 v.0 v.1); spelled = signed_version h.text s.0.1 v.0.0.1 h.is })
+    (record {
+      a = mark h.text s.0.1 ∷ lex Version v.0.0.1 ∷ [];
+      takes = joint h.takes (takes_version s.1 v.0 v.1);
+      spelled = signed_version h.text s.0.1 v.0.0.1 h.is;
+    })
 constraint_found ts None x at q =
     let v = bind_some _ _ x q in
-    subst (λ (z : Constraint × List Lexeme). Constrained ts z) (some_is v.2) (record { a = lex Version v.0.0.1 ∷ []; takes = takes_version ts v.0 v.1; spelled = bare_version v.0.0.1 })
+    subst (λ (z : Constraint × List Lexeme). Constrained ts z) (some_is v.2)
+    (record { a = lex Version v.0.0.1 ∷ []; takes = takes_version ts v.0 v.1; spelled = bare_version v.0.0.1 })
 
 -- a pragma behind its word: in front of what spells a contract it makes one
 pub record Pragma (ts : List Lexeme) (x : List Constraint × List Lexeme) : Type 0 where
@@ -69,7 +76,8 @@ pub record Pragma (ts : List Lexeme) (x : List Constraint × List Lexeme) : Type
   spelled : (p : Span) (more : List Lexeme) (tree : Tree) → SpellsFile more tree
       → SpellsFile (mark (codes "pragma") p ∷ (a ++ more)) (with_pragma x.0 tree)
 
-second_found : (w : Span) (ts a us : List Lexeme) (first : Constraint) (o : Option (Span × List Lexeme)) (x : List Constraint × List Lexeme)
+second_found : (w : Span) (ts a us : List Lexeme) (first : Constraint) (o : Option (Span × List Lexeme))
+    (x : List Constraint × List Lexeme)
     → Takes ts (mark (codes "cashscript") w ∷ a) us → SpellsConstraint a first → eaten (codes ";") us ≡ o
     → second_step first us o ≡ Some x → Pragma ts x
 second_found w ts a us first (Some z) x front d at q =
@@ -89,7 +97,11 @@ second_found w ts a us first None x front d at q =
       a = mark (codes "cashscript") w ∷ (a ++ (h.a ++ mark (codes ";") z.0.0 ∷ []));
       takes = joint front (joint h.takes (eats z.1));
       some = omega arith;
-      spelled = λ p more tree k. rw (append_assoc a (h.a ++ mark (codes ";") z.0.0 ∷ []) more, append_assoc h.a (mark (codes ";") z.0.0 ∷ []) more) (two_constraints p w z.0.0 d h.spelled k);
+      spelled = λ p more tree k. rw (
+        append_assoc a (h.a ++ mark (codes ";") z.0.0 ∷ []) more,
+        append_assoc h.a
+            (mark (codes ";") z.0.0 ∷ []) more,
+      ) (two_constraints p w z.0.0 d h.spelled k);
     })
 
 pragma_found : (ts : List Lexeme) (x : List Constraint × List Lexeme) → pragma_at ts ≡ Some x → Pragma ts x
@@ -98,7 +110,8 @@ pragma_found ts x q =
     let w = bind_some _ _ x q in
     let first = bind_some _ _ x w.2 in
     let h = constraint_found w.0.1 (taken (mark_value sign_value) w.0.1) first.0 refl first.1 in
-    second_found w.0.0 ts h.a first.0.1 first.0.0 (eaten (codes ";") first.0.1) x (joint (eats w.1) h.takes) h.spelled refl first.2
+    second_found w.0.0 ts h.a first.0.1 first.0.0 (eaten (codes ";") first.0.1) x (joint (eats w.1) h.takes) h.spelled
+    refl first.2
 
 pragma_shorter : (ts : List Lexeme) (x : List Constraint × List Lexeme) → pragma_at ts ≡ Some x → length x.1 < length ts
 pragma_shorter ts x q =
@@ -131,13 +144,27 @@ param_found ts x q =
     let ty = bind_some _ _ x q in
     let n = bind_some _ _ x ty.2 in
     subst (λ (z : Param Span × List Lexeme). ParamFound ts z) (some_is n.2)
-    (record { ty = ty.0.0.0; s = ty.0.0.1; word = n.0.0.0; p = n.0.0.1; takes = joint (takes_type ts ty.0 ty.1) (takes_name ty.0.1 n.0 n.1); is = refl })
+    (record {
+      ty = ty.0.0.0;
+      s = ty.0.0.1;
+      word = n.0.0.0;
+      p = n.0.0.1;
+      takes = joint (takes_type ts ty.0 ty.1) (takes_name ty.0.1 n.0 n.1);
+      is = refl;
+    })
 
-last_sound : (ts us : List Lexeme) (h : Param Span) (k : ParamFound ts (h, us)) (o : Option (Span × List Lexeme)) (x : (List (Param Span) × Span) × List Lexeme)
+last_sound : (ts us : List Lexeme) (h : Param Span) (k : ParamFound ts (h, us)) (o : Option (Span × List Lexeme))
+    (x : (List (Param Span) × Span) × List Lexeme)
     → eaten (codes ")") us ≡ o → last_step h o ≡ Some x → Sound params ts x
 last_sound ts us h k (Some c) x at q =
-    found params ts (ap (λ (z : Param Span). Some ((z ∷ [], c.0), c.1)) k.is ∙ q)
-    (_, record { parts = k.takes.parts ∙ ap (λ (z : List Lexeme). lex (Type_ k.ty) k.s ∷ lex (Name k.word) k.p ∷ z) (eaten_is (codes ")") us c at) }, last_param k.p)
+    found params ts (ap (λ (z : Param Span). Some ((z ∷ [], c.0), c.1)) k.is ∙ q) (
+      _,
+      record {
+        parts = k.takes.parts ∙ ap (λ (z : List Lexeme). lex (Type_ k.ty) k.s ∷ lex (Name k.word) k.p ∷ z)
+            (eaten_is (codes ")") us c at);
+      },
+      last_param k.p,
+    )
 last_sound ts us h k None x at q = absurd cc
 
 -- a name and parameters that were read
@@ -158,12 +185,14 @@ pub record FunctionFound (ts : List Lexeme) (x : FunctionTree × List Lexeme) : 
       → SpellsFunctions (a ++ more) (x.0 ∷ fs)
 
 module _ (read : Reader) (good : Gives-good Goal Value Sound read) where
-  comma_sound : (ts us : List Lexeme) (p : Param Span) (k : ParamFound ts (p, us)) (o : Option (Span × List Lexeme)) (x : (List (Param Span) × Span) × List Lexeme)
+  comma_sound : (ts us : List Lexeme) (p : Param Span) (k : ParamFound ts (p, us)) (o : Option (Span × List Lexeme))
+      (x : (List (Param Span) × Span) × List Lexeme)
       → eaten (codes ",") us ≡ o → comma_step read p us o ≡ Some x → Sound params ts x
   comma_sound ts us p k (Some m) x at q =
       let r = bind_some _ _ x q in
       let h = good params m.1 r.0 r.1 in
-      found params ts (ap (λ (z : Param Span). Some ((z ∷ r.0.0.0, r.0.0.1), r.0.1)) k.is ∙ r.2) (_, joint k.takes (joint (eats at) h.1), next_param k.p m.0 h.2)
+      found params ts (ap (λ (z : Param Span). Some ((z ∷ r.0.0.0, r.0.0.1), r.0.1)) k.is ∙ r.2)
+      (_, joint k.takes (joint (eats at) h.1), next_param k.p m.0 h.2)
   comma_sound ts us p k None x at q = last_sound ts us p k (eaten (codes ")") us) x refl q
 
   params_sound : (ts : List Lexeme) (o : Option (Span × List Lexeme)) (x : (List (Param Span) × Span) × List Lexeme)
@@ -205,15 +234,25 @@ module _ (read : Reader) (good : Gives-good Goal Value Sound read) where
       let inner : List Lexeme = mark (codes "{") b.0.0 ∷ (body.0 ++ end) in
       subst (λ (z : FunctionTree × List Lexeme). FunctionFound ts z) (some_is ss.2)
       (record {
-        a = mark (codes "function") f.0.0 ∷ lex (Name head.word) h.0.0.0 ∷ mark (codes "(") head.o ∷ ((head.a ++ close) ++ inner);
-        takes = joint (eats f.1) (joint head.takes (joint (eats b.1) (joint body.1 (one (mark (codes "}") ss.0.0.1) ss.0.1))));
+        a = mark (codes "function") f.0.0 ∷ lex (Name head.word) h.0.0.0 ∷ mark (codes "(") head.o ∷
+            ((head.a ++ close) ++ inner);
+        takes = joint (eats f.1) (joint head.takes
+            (joint (eats b.1) (joint body.1 (one (mark (codes "}") ss.0.0.1) ss.0.1))));
         some = omega arith;
-        spelled = λ more fs k. rw (append_assoc (head.a ++ close) inner more, append_assoc head.a close (mark (codes "{") b.0.0 ∷ ((body.0 ++ end) ++ more)), append_assoc body.0 end more)
+        spelled = λ more fs k. rw (
+          append_assoc (head.a ++ close) inner more,
+          append_assoc head.a close
+              (mark (codes "{") b.0.0 ∷ ((body.0 ++ end) ++ more)),
+          append_assoc body.0 end more,
+        )
             (one_function f.0.0 h.0.0.0 head.o head.c b.0.0 ss.0.0.1 head.spelled body.2 k);
       })
 
-  functions_sound : (ts : List Lexeme) (o : Option (Span × List Lexeme)) (x : (List FunctionTree × Span) × List Lexeme) → eaten (codes "}") ts ≡ o → functions_step read ts o ≡ Some x → Sound functions ts x
-  functions_sound ts (Some c) x at q = found functions ts q ([], record { parts = eaten_is (codes "}") ts c at }, no_function)
+  functions_sound : (ts : List Lexeme) (o : Option (Span × List Lexeme))
+      (x : (List FunctionTree × Span) × List Lexeme) → eaten (codes "}") ts ≡ o → functions_step read ts o ≡ Some x
+      → Sound functions ts x
+  functions_sound ts (Some c) x at q =
+      found functions ts q ([], record { parts = eaten_is (codes "}") ts c at }, no_function)
   functions_sound ts None x at q =
       let f = bind_some _ _ x q in
       let r = bind_some _ _ x f.2 in
@@ -230,10 +269,14 @@ module _ (read : Reader) (good : Gives-good Goal Value Sound read) where
       let head = head_found k.0.1 h.0 h.1 in
       let d = good functions b.0.1 fs.0 fs.1 in
       let inner : List Lexeme = mark (codes "{") b.0.0 ∷ (d.0 ++ mark (codes "}") fs.0.0.1 ∷ []) in
-      let front : List Lexeme = mark (codes "contract") k.0.0 ∷ lex (Name head.word) h.0.0.0 ∷ mark (codes "(") head.o ∷ [] in
-      let split : Takes ts (front ++ ((head.a ++ mark (codes ")") head.c ∷ []) ++ inner)) fs.0.1 = joint (eats k.1) (joint head.takes (joint (eats b.1) (joint d.1 (one (mark (codes "}") fs.0.0.1) fs.0.1)))) in
-      let regroup : (head.a ++ mark (codes ")") head.c ∷ []) ++ inner ≡ head.a ++ (mark (codes ")") head.c ∷ inner) = append_assoc head.a (mark (codes ")") head.c ∷ []) inner in
-      let whole : Takes ts (front ++ (head.a ++ (mark (codes ")") head.c ∷ inner))) fs.0.1 = subst (λ (z : List Lexeme). Takes ts (front ++ z) fs.0.1) regroup split in
+      let front : List Lexeme = mark (codes "contract") k.0.0 ∷ lex (Name head.word) h.0.0.0 ∷
+      mark (codes "(") head.o ∷ [] in
+      let split : Takes ts (front ++ ((head.a ++ mark (codes ")") head.c ∷ []) ++ inner)) fs.0.1 = joint (eats k.1)
+      (joint head.takes (joint (eats b.1) (joint d.1 (one (mark (codes "}") fs.0.0.1) fs.0.1)))) in
+      let regroup : (head.a ++ mark (codes ")") head.c ∷ []) ++ inner ≡ head.a ++
+      (mark (codes ")") head.c ∷ inner) = append_assoc head.a (mark (codes ")") head.c ∷ []) inner in
+      let whole : Takes ts (front ++ (head.a ++ (mark (codes ")") head.c ∷ inner))) fs.0.1 = subst
+      (λ (z : List Lexeme). Takes ts (front ++ z) fs.0.1) regroup split in
       found file ts fs.2 (_, whole, contract k.0.0 h.0.0.0 head.o head.c b.0.0 fs.0.0.1 head.spelled d.2)
 
   file_sound : (ts : List Lexeme) (o : Option (Span × List Lexeme)) (x : Tree × List Lexeme)
@@ -264,7 +307,8 @@ module _ (f h : Reader) (good : Gives-good Goal Value Sound f) where
       → length x.1 < length ts
   head_shorter ts x q =
       let k = head_found f good ts x q in
-      let split : length ts ≡ length ((lex (Name k.word) x.0.0 ∷ mark (codes "(") k.o ∷ (k.a ++ mark (codes ")") k.c ∷ [])) ++ x.1) = ap length k.takes.parts in
+      let split : length ts ≡ length ((lex (Name k.word) x.0.0 ∷ mark (codes "(") k.o ∷
+      (k.a ++ mark (codes ")") k.c ∷ [])) ++ x.1) = ap length k.takes.parts in
       omega (arith, length-append (k.a ++ mark (codes ")") k.c ∷ []) x.1)
 
   function_shorter : (ts : List Lexeme) (x : FunctionTree × List Lexeme) → function_at f ts ≡ Some x
@@ -278,13 +322,16 @@ module _ (f h : Reader) (good : Gives-good Goal Value Sound f) where
   comma_same : (ts us : List Lexeme) (p : Param Span) (o : Option (Span × List Lexeme)) → length us < length ts
       → eaten (codes ",") us ≡ o → Agrees (length ts) → comma_step f p us o ≡ comma_step h p us o
   comma_same ts us p (Some m) lt at same =
-      let len = eaten_shorter (codes ",") us m at in ap (λ z. z >>= λ others. Some ((p ∷ others.0.0, others.0.1), others.1)) (same params m.1 (omega arith))
+      let len = eaten_shorter (codes ",") us m at in ap
+      (λ z. z >>= λ others. Some ((p ∷ others.0.0, others.0.1), others.1)) (same params m.1 (omega arith))
   comma_same ts us p None lt at same = refl
 
   params_same : (ts : List Lexeme) (o : Option (Span × List Lexeme)) → Agrees (length ts)
       → params_step f ts o ≡ params_step h ts o
   params_same ts (Some c) same = refl
-  params_same ts None same = then_same _ _ _ _ refl (λ p at_p. comma_same ts p.1 p.0 (eaten (codes ",") p.1) (param_shorter ts p at_p) refl same)
+  params_same ts None same =
+      then_same _ _ _ _ refl (λ p at_p. comma_same ts p.1 p.0 (eaten (codes ",") p.1) (param_shorter ts p at_p) refl
+      same)
 
   head_same : (ts us : List Lexeme) → length us < length ts → Agrees (length ts) → head_at f us ≡ head_at h us
   head_same ts us lt same =

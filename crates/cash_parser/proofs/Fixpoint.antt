@@ -13,9 +13,11 @@ abbrev pub Agree-below : (G : Type 0) (V : G → Type 0) → (G → List Lexeme 
     → Type 0
 Agree-below G V weight f h w = (g : G) (ts : List Lexeme) → weight g ts < w → f g ts ≡ h g ts
 
-module _ (G : Type 0) (V : G → Type 0) (step : ReaderOf G V → ReaderOf G V) (weight : G → List Lexeme → ℕ) (Good : (g : G) → List Lexeme → V g × List Lexeme → Type 0)
+module _ (G : Type 0) (V : G → Type 0) (step : ReaderOf G V → ReaderOf G V) (weight : G → List Lexeme → ℕ)
+    (Good : (g : G) → List Lexeme → V g × List Lexeme → Type 0)
     (step_good : (read : ReaderOf G V) → Gives-good G V Good read → Gives-good G V Good (step read))
-    (step_same : (f h : ReaderOf G V) → Gives-good G V Good f → (g : G) (ts : List Lexeme) → Agree-below G V weight f h (weight g ts) → step f g ts ≡ step h g ts) where
+    (step_same : (f h : ReaderOf G V) → Gives-good G V Good f → (g : G) (ts : List Lexeme)
+    → Agree-below G V weight f h (weight g ts) → step f g ts ≡ step h g ts) where
   within_good : (n : ℕ) → Gives-good G V Good (within G V step n)
   unfolding within
   within_good zero g ts x e = absurd cc
@@ -31,9 +33,11 @@ module _ (G : Type 0) (V : G → Type 0) (step : ReaderOf G V → ReaderOf G V) 
   enough zero m g ts lt lt' = absurd (omega arith)
   enough (suc n) zero g ts lt lt' = absurd (omega arith)
   enough (suc n) (suc m) g ts lt lt' =
-      step_same (within G V step n) (within G V step m) (within_good n) g ts (λ g' us less. enough n m g' us (omega arith) (omega arith))
+      step_same (within G V step n) (within G V step m) (within_good n) g ts
+      (λ g' us less. enough n m g' us (omega arith) (omega arith))
 
   pub fixed_unrolled : (g : G) (ts : List Lexeme) → fixed G V step weight g ts ≡ step (fixed G V step weight) g ts
   unfolding fixed within
   fixed_unrolled g ts =
-      step_same (within G V step (weight g ts)) (fixed G V step weight) (within_good (weight g ts)) g ts (λ g' us less. enough (weight g ts) (suc (weight g' us)) g' us less (omega arith))
+      step_same (within G V step (weight g ts)) (fixed G V step weight) (within_good (weight g ts)) g ts
+      (λ g' us less. enough (weight g ts) (suc (weight g' us)) g' us less (omega arith))

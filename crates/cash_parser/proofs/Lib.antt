@@ -13,3 +13,5 @@ pub mod FileComplete
 pub mod FileLoop
 pub mod Small
 pub mod SmallTree
+pub mod Inside
+pub mod InsideTree

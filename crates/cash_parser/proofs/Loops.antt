@@ -11,7 +11,8 @@ use Rattle.cash_parser.proofs.Unrolled.{unrolled}
 -- ---- a level above the tightest
 
 pub level_read : (n : ℕ) (ts : List Lexeme) → 0 < n
-    → reading (part (level n)) ts ≡ (reading (part (level (n - 1))) ts >>= λ left. reading (operators (n - 1) left.0) left.1)
+    → reading (part (level n)) ts ≡
+    (reading (part (level (n - 1))) ts >>= λ left. reading (operators (n - 1) left.0) left.1)
 level_read zero ts lt = absurd (omega arith)
 level_read (suc k) ts lt = let e : suc k - 1 ≡ k = omega arith in rw e (unrolled (part (level (suc k))) ts)
 
@@ -29,13 +30,17 @@ with_front front read = read >>= λ x. Some ((front ++ x.0.0, x.0.1), x.1)
 front-one : (front : List Expression) (e : Expression) (read : Option ((List Expression × Span) × List Lexeme))
     → with_front front (read >>= λ x. Some ((e ∷ x.0.0, x.0.1), x.1)) ≡ with_front (front ++ e ∷ []) read
 front-one front e None = refl
-front-one front e (Some x) = ap (λ (es : List Expression). Some ((es, x.0.1), x.1)) (sym (append_assoc front (e ∷ []) x.0.0))
+front-one front e (Some x) =
+    ap (λ (es : List Expression). Some ((es, x.0.1), x.1)) (sym (append_assoc front (e ∷ []) x.0.0))
 
 pub no_more : (front : List Expression) (close : List ℕ) (ts : List Lexeme) (c : Span × List Lexeme)
     → eaten close ts ≡ Some c → with_front front (reading (items close) ts) ≡ Some ((front, c.0), c.1)
-no_more front close ts c at = rw (unrolled (items close) ts, at) (ap (λ (es : List Expression). Some ((es, c.0), c.1)) (append-nil front))
+no_more front close ts c at =
+    rw (unrolled (items close) ts, at) (ap (λ (es : List Expression). Some ((es, c.0), c.1)) (append-nil front))
 
-pub one_more : (front : List Expression) (close : List ℕ) (ts : List Lexeme) (e : Expression × List Lexeme) (comma : Span × List Lexeme) → eaten close ts ≡ None
+pub one_more : (front : List Expression) (close : List ℕ) (ts : List Lexeme) (e : Expression × List Lexeme)
+    (comma : Span × List Lexeme) → eaten close ts ≡ None
     → reading whole_part ts ≡ Some e → eaten (codes ",") e.1 ≡ Some comma
     → with_front front (reading (items close) ts) ≡ with_front (front ++ e.0 ∷ []) (reading (items close) comma.1)
-one_more front close ts e comma no_close read at = rw (unrolled (items close) ts, no_close, read, at) (front-one front e.0 (reading (items close) comma.1))
+one_more front close ts e comma no_close read at =
+    rw (unrolled (items close) ts, no_close, read, at) (front-one front e.0 (reading (items close) comma.1))

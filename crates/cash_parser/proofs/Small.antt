@@ -93,10 +93,12 @@ at_look e look is = search (rules, the_lemmas)
 mutual
   pub few_nodes : {p : Part} {a : List Lexeme} {e : Expression} → Spells p a e → node_count e ≤ length a
   few_nodes (number {n = n} {s}) = let h = at_int (number_of n 1 s) n 1 refl in omega arith
-  few_nodes (number_with_unit {n = n} {s} word u w q) = let h = at_int (number_of n u (across s w)) n u refl in omega arith
+  few_nodes (number_with_unit {n = n} {s} word u w q) =
+      let h = at_int (number_of n u (across s w)) n u refl in omega arith
   few_nodes (hex_literal {bytes = bytes} {s}) = let h = at_hex (expr (nodes.Hex bytes) s) bytes refl in omega arith
   few_nodes (text_literal {bytes = bytes} {s}) = let h = at_text (expr (nodes.Text bytes) s) bytes refl in omega arith
-  few_nodes (date_literal {seconds = seconds} {s}) = let h = at_date (expr (nodes.Date seconds) s) seconds refl in omega arith
+  few_nodes (date_literal {seconds = seconds} {s}) =
+      let h = at_date (expr (nodes.Date seconds) s) seconds refl in omega arith
   few_nodes (true_literal {s = s}) = let h = at_bool (expr (nodes.Bool true) s) true refl in omega arith
   few_nodes (false_literal {s = s}) = let h = at_bool (expr (nodes.Bool false) s) false refl in omega arith
   few_nodes (name {s = s}) = let h = at_name (expr (nodes.Name s) s) s refl in omega arith
@@ -121,11 +123,13 @@ mutual
       let k : total (node_count e ∷ []) ≤ length a = few_all d in
       omega (arith, length-append a (mark (codes ")") c ∷ []))
   few_nodes (cast_with_size {ty = ty} s o c {a} {e} {size} d) =
-      let h : node_count (cast_to ty s e (Some size) c) ≡ node_count e + node_count size + 1 = at_sized_cast (cast_to ty s e (Some size) c) e (Some size) ty refl in
+      let h : node_count (cast_to ty s e (Some size) c) ≡ node_count e + node_count size + 1 = at_sized_cast
+      (cast_to ty s e (Some size) c) e (Some size) ty refl in
       let k : total (node_count e ∷ node_count size ∷ []) ≤ length a = few_all d in
       omega (arith, length-append a (mark (codes ")") c ∷ []))
   few_nodes (whole look x d s q) = let h = at_look (look_of x look s) look refl in omega arith
-  few_nodes (count side x d s d' l q) = let h = at_look (look_of x (count_of side) l) (count_of side) refl in omega arith
+  few_nodes (count side x d s d' l q) =
+      let h = at_look (look_of x (count_of side) l) (count_of side) refl in omega arith
   few_nodes (member field side look x d s o c d' m {a} {e} q q' k) =
       let h = at_look_at (look_at_of x look e m) e look refl in
       let few = few_nodes k in
@@ -139,12 +143,21 @@ mutual
   few_nodes (reverse_call word d s o c {a = a} {e} q k) =
       let h = at_reverse (reverse_of e c) e refl in
       let few = few_nodes k in
-      omega (arith, length-append a (mark (codes ".") d ∷ lex (Name word) s ∷ mark (codes "(") o ∷ mark (codes ")") c ∷ []))
+      omega (
+        arith,
+        length-append a (mark (codes ".") d ∷ lex (Name word) s ∷ mark (codes "(") o ∷
+            mark (codes ")") c ∷ []),
+      )
   few_nodes (split_call word d s o c {a = a} {b} {e} {at} q k k') =
       let h = at_split (split_of e at c) e at refl in
       let few = few_nodes k in
       let more = few_nodes k' in
-      omega (arith, length-append a (mark (codes ".") d ∷ lex (Name word) s ∷ mark (codes "(") o ∷ (b ++ mark (codes ")") c ∷ [])), length-append b (mark (codes ")") c ∷ []))
+      omega (
+        arith,
+        length-append a (mark (codes ".") d ∷ lex (Name word) s ∷ mark (codes "(") o ∷
+            (b ++ mark (codes ")") c ∷ [])),
+        length-append b (mark (codes ")") c ∷ []),
+      )
   few_nodes (index n o s c {a = a} {e} k) =
       let h = at_index (index_of e n c) e n refl in
       let few = few_nodes k in
@@ -183,17 +196,25 @@ two_runs (t ∷ a) b h k = (h.0, two_runs a b h.1 k)
 -- a symbol that passes a test that the signs don't
 no_mark : (test : Symbol → Bool) (text : List ℕ) (symbol : Symbol) (b : Bool) → is_mark text symbol ≡ b
     → test symbol ≡ true → test (Mark text) ≡ false → b ≡ false
-no_mark test text symbol true e passes fails = absurd (false≢true (sym fails ∙ ap test (sym (mark_is text symbol e)) ∙ passes))
+no_mark test text symbol true e passes fails =
+    absurd (false≢true (sym fails ∙ ap test (sym (mark_is text symbol e)) ∙ passes))
 no_mark test text symbol false e passes fails = refl
 
 no_end : (test : Symbol → Bool) (symbol : Symbol) → test symbol ≡ true → test (Mark (codes ";")) ≡ false
     → test (Mark (codes "{")) ≡ false → test (Mark (codes "}")) ≡ false → ends_run symbol ≡ false
 no_end test symbol passes a b c =
-    rw (no_mark test (codes ";") symbol (is_mark (codes ";") symbol) refl passes a, no_mark test (codes "{") symbol (is_mark (codes "{") symbol) refl passes b, no_mark test (codes "}") symbol (is_mark (codes "}") symbol) refl passes c) refl
+    rw (
+      no_mark test (codes ";") symbol (is_mark (codes ";") symbol) refl passes a,
+      no_mark test (codes "{") symbol
+          (is_mark (codes "{") symbol) refl passes b,
+      no_mark test (codes "}") symbol (is_mark (codes "}") symbol) refl
+          passes c,
+    ) refl
 
 joins_run : (symbol : Symbol) (j : ℕ × BinaryOp) → joins symbol ≡ Some j → ends_run symbol ≡ false
 unfolding operator_of
-joins_run symbol j e = no_end (λ s. is_some (joins s)) symbol (ap (λ (o : Option (ℕ × BinaryOp)). is_some o) e) refl refl refl
+joins_run symbol j e =
+    no_end (λ s. is_some (joins s)) symbol (ap (λ (o : Option (ℕ × BinaryOp)). is_some o) e) refl refl refl
 
 signs_run : (symbol : Symbol) (op : UnaryOp) → signs symbol ≡ Some op → ends_run symbol ≡ false
 unfolding prefix_of
@@ -217,20 +238,38 @@ mutual
   is_run (cast_with_size s o c {a = a} d) = (refl, (refl, two_runs a (mark (codes ")") c ∷ []) (are_run d) (refl, tt)))
   is_run (whole look x d s q) = (refl, (refl, (refl, tt)))
   is_run (count side x d s d' l q) = (refl, (refl, (refl, (refl, (refl, tt)))))
-  is_run (member field side look x d s o c d' m {a = a} q q' k) =
-      (refl, (refl, (refl, (refl, two_runs a (mark (codes "]") c ∷ mark (codes ".") d' ∷ lex (Name field) m ∷ []) (is_run k) (refl, (refl, (refl, tt)))))))
+  is_run (member field side look x d s o c d' m {a = a} q q' k) = (
+    refl,
+    (
+      refl,
+      (
+        refl,
+        (
+          refl,
+          two_runs a (mark (codes "]") c ∷ mark (codes ".") d' ∷ lex (Name field) m ∷ [])
+              (is_run k) (refl, (refl, (refl, tt))),
+        ),
+      ),
+    ),
+  )
   is_run (active look x d s q) = (refl, (refl, (refl, tt)))
   is_run (bare d) = is_run d
-  is_run (length_word word d s {a = a} q k) = two_runs a (mark (codes ".") d ∷ lex (Name word) s ∷ []) (is_run k) (refl, (refl, tt))
-  is_run (reverse_call word d s o c {a = a} q k) = two_runs a (mark (codes ".") d ∷ lex (Name word) s ∷ mark (codes "(") o ∷ mark (codes ")") c ∷ []) (is_run k) (refl, (refl, (refl, (refl, tt))))
+  is_run (length_word word d s {a = a} q k) =
+      two_runs a (mark (codes ".") d ∷ lex (Name word) s ∷ []) (is_run k) (refl, (refl, tt))
+  is_run (reverse_call word d s o c {a = a} q k) =
+      two_runs a (mark (codes ".") d ∷ lex (Name word) s ∷ mark (codes "(") o ∷ mark (codes ")") c ∷ []) (is_run k)
+      (refl, (refl, (refl, (refl, tt))))
   is_run (split_call word d s o c {a = a} {b = b} q k k') =
-      two_runs a (mark (codes ".") d ∷ lex (Name word) s ∷ mark (codes "(") o ∷ (b ++ mark (codes ")") c ∷ [])) (is_run k) (refl, (refl, (refl, two_runs b (mark (codes ")") c ∷ []) (is_run k') (refl, tt))))
-  is_run (index n o s c {a = a} k) = two_runs a (mark (codes "[") o ∷ lex (Number n) s ∷ mark (codes "]") c ∷ []) (is_run k) (refl, (refl, (refl, tt)))
+      two_runs a (mark (codes ".") d ∷ lex (Name word) s ∷ mark (codes "(") o ∷ (b ++ mark (codes ")") c ∷ []))
+      (is_run k) (refl, (refl, (refl, two_runs b (mark (codes ")") c ∷ []) (is_run k') (refl, tt))))
+  is_run (index n o s c {a = a} k) =
+      two_runs a (mark (codes "[") o ∷ lex (Number n) s ∷ mark (codes "]") c ∷ []) (is_run k) (refl, (refl, (refl, tt)))
   is_run (no_sign d) = is_run d
   is_run (sign t op q d) = (signs_run t.symbol op q, is_run d)
   is_run (no_operator d) = is_run d
   is_run (tighter d) = is_run d
-  is_run (operator k t op {a = a} {b = b} j d d') = two_runs a (t ∷ b) (is_run d) (joins_run t.symbol (suc k, op) j, is_run d')
+  is_run (operator k t op {a = a} {b = b} j d d') =
+      two_runs a (t ∷ b) (is_run d) (joins_run t.symbol (suc k, op) j, is_run d')
 
   are_run : {a : List Lexeme} {es : List Expression} → SpellsAll a es → IsRun a
   are_run none = tt
@@ -252,7 +291,9 @@ third_fails false false false e free = refl
 
 nothing_broken : (d : Depth) → broken_rule d ≡ None → d.run ≤ 1000
 unfolding broken_rule
-nothing_broken d free = ltb-false 1000 d.run (third_fails (nat_lt 64 d.brackets) (nat_lt 32 d.braces) (nat_lt 1000 d.run) (nat_lt 128 d.branches) free)
+nothing_broken d free =
+    ltb-false 1000 d.run (third_fails (nat_lt 64 d.brackets) (nat_lt 32 d.braces) (nat_lt 1000 d.run)
+    (nat_lt 128 d.branches) free)
 
 kept : (r : Option DepthRule) (s : Span) (later : Option (DepthRule × Span)) → or_later r s later ≡ None
     → (r ≡ None) × (later ≡ None)
@@ -283,4 +324,8 @@ short_from d (t ∷ pre) a post run low free =
 
 pub runs_short : (ts : List Lexeme) → deepest_token ts ≡ None → Runs ts
 unfolding deepest_token
-runs_short ts free = record { short = λ pre a post e run. short_from nothing_open pre a post run (omega arith) (subst (λ (z : List Lexeme). deep_behind nothing_open z ≡ None) e free) }
+runs_short ts free =
+    record {
+      short = λ pre a post e run. short_from nothing_open pre a post run (omega arith)
+          (subst (λ (z : List Lexeme). deep_behind nothing_open z ≡ None) e free);
+    }

@@ -47,10 +47,19 @@ at_if s e body other is = search (rules, the_lemmas)
 -- ---- runs in a part of the lexemes
 
 behind : (a b : List Lexeme) → Runs (a ++ b) → Runs b
-behind a b h = record { short = λ pre x post e run. h.short (a ++ pre) x post (ap (λ (z : List Lexeme). a ++ z) e ∙ sym (append_assoc a pre (x ++ post))) run }
+behind a b h =
+    record {
+      short = λ pre x post e run. h.short (a ++ pre) x post
+          (ap (λ (z : List Lexeme). a ++ z) e ∙ sym (append_assoc a pre (x ++ post))) run;
+    }
 
 before : (a b : List Lexeme) → Runs (a ++ b) → Runs a
-before a b h = record { short = λ pre x post e run. h.short pre x (post ++ b) (ap (λ (z : List Lexeme). z ++ b) e ∙ append_assoc pre (x ++ post) b ∙ ap (λ (z : List Lexeme). pre ++ z) (append_assoc x post b)) run }
+before a b h =
+    record {
+      short = λ pre x post e run. h.short pre x (post ++ b)
+          (ap (λ (z : List Lexeme). z ++ b) e ∙ append_assoc pre (x ++ post) b ∙
+          ap (λ (z : List Lexeme). pre ++ z) (append_assoc x post b)) run;
+    }
 
 small : {a : List Lexeme} {e : Expression} → SpellsExpr a e → Runs a → node_count e ≤ 1000
 small {a = a} {e = e} d h =
@@ -76,20 +85,27 @@ small_simple (define {ty = ty} {s = s} k word p q c {a = a} {b = b} {e = e} ks d
     let k' : Runs inner = behind a inner (behind (lex (Type_ ty) s ∷ []) (a ++ inner) h) in
     one_small (define_of s ty k p e c) e (at_define (define_of s ty k p e c) ty k p e refl)
     (first_small (lex (Name word) p ∷ mark (codes "=") q ∷ []) b (mark (codes ";") c ∷ []) e d k')
-small_simple (pair {ty = ty} {ty' = ty'} {s = s} {s' = s'} {word = word} {word' = word'} p m p' q c {a = a} {e = e} d) h =
-    one_small (pair_of s (param_of ty p) (param_of ty' p') e c) e (at_pair (pair_of s (param_of ty p) (param_of ty' p') e c) (param_of ty p) (param_of ty' p') e refl)
-    (first_small (lex (Type_ ty) s ∷ lex (Name word) p ∷ mark (codes ",") m ∷ lex (Type_ ty') s' ∷ lex (Name word') p' ∷ mark (codes "=") q ∷ []) a (mark (codes ";") c ∷ []) e d h)
+small_simple (pair {ty = ty} {ty' = ty'} {s = s} {s' = s'} {word = word} {word' = word'} p m p' q c {a = a} {e = e} d)
+    h =
+    one_small (pair_of s (param_of ty p) (param_of ty' p') e c) e
+    (at_pair (pair_of s (param_of ty p) (param_of ty' p') e c) (param_of ty p) (param_of ty' p') e refl)
+    (first_small (lex (Type_ ty) s ∷ lex (Name word) p ∷ mark (codes ",") m ∷ lex (Type_ ty') s' ∷
+    lex (Name word') p' ∷ mark (codes "=") q ∷ []) a (mark (codes ";") c ∷ []) e d h)
 small_simple (assign {word = word} p q c {a = a} {e = e} d) h =
-    one_small (assign_of p e c) e (at_assign (assign_of p e c) p e refl) (first_small (lex (Name word) p ∷ mark (codes "=") q ∷ []) a (mark (codes ";") c ∷ []) e d h)
+    one_small (assign_of p e c) e (at_assign (assign_of p e c) p e refl)
+    (first_small (lex (Name word) p ∷ mark (codes "=") q ∷ []) a (mark (codes ";") c ∷ []) e d h)
 small_simple (time r o x d w g c z {a = a} {e = e} k) h =
     one_small (time_of r e z) e (at_time (time_of r e z) e refl)
-    (first_small (mark (codes "require") r ∷ mark (codes "(") o ∷ mark (codes "tx") x ∷ mark (codes ".") d ∷ lex (Name (codes "time")) w ∷ mark (codes ">=") g ∷ []) a (mark (codes ")") c ∷ mark (codes ";") z ∷ []) e k h)
+    (first_small (mark (codes "require") r ∷ mark (codes "(") o ∷ mark (codes "tx") x ∷ mark (codes ".") d ∷
+    lex (Name (codes "time")) w ∷ mark (codes ">=") g ∷ []) a (mark (codes ")") c ∷ mark (codes ";") z ∷ []) e k h)
 small_simple (age r o x d w g c z {a = a} {e = e} k) h =
     one_small (age_of r e z) e (at_age (age_of r e z) e refl)
-    (first_small (mark (codes "require") r ∷ mark (codes "(") o ∷ mark (codes "this") x ∷ mark (codes ".") d ∷ lex (Name (codes "age")) w ∷ mark (codes ">=") g ∷ []) a (mark (codes ")") c ∷ mark (codes ";") z ∷ []) e k h)
+    (first_small (mark (codes "require") r ∷ mark (codes "(") o ∷ mark (codes "this") x ∷ mark (codes ".") d ∷
+    lex (Name (codes "age")) w ∷ mark (codes ">=") g ∷ []) a (mark (codes ")") c ∷ mark (codes ";") z ∷ []) e k h)
 small_simple (required r o c z {a = a} {e = e} k) h =
     one_small (require_of r e z) e (at_require (require_of r e z) e refl)
-    (first_small (mark (codes "require") r ∷ mark (codes "(") o ∷ []) a (mark (codes ")") c ∷ mark (codes ";") z ∷ []) e k h)
+    (first_small (mark (codes "require") r ∷ mark (codes "(") o ∷ []) a (mark (codes ")") c ∷ mark (codes ";") z ∷ [])
+    e k h)
 
 mutual
   small_stmt : {shut : Bool} {a : List Lexeme} {s : Statement} → SpellsStmt shut a s → Runs a → AreSmall (values s)
@@ -97,21 +113,29 @@ mutual
   small_stmt (if_only i o c {a = a} {b = b} {e = e} {body = body} d inner) h =
       let front : List Lexeme = mark (codes "if") i ∷ mark (codes "(") o ∷ [] in
       let test = first_small front a (mark (codes ")") c ∷ b) e d h in
-      let k : Runs b = behind (mark (codes ")") c ∷ []) b (behind a (mark (codes ")") c ∷ b) (behind front (a ++ (mark (codes ")") c ∷ b)) h)) in
-      subst AreSmall (sym (at_if (if_of i e body) e body.0 None refl)) (test.0, both_small (joined (map values body.0)) [] (small_block inner k) tt)
+      let k : Runs b = behind (mark (codes ")") c ∷ []) b
+      (behind a (mark (codes ")") c ∷ b) (behind front (a ++ (mark (codes ")") c ∷ b)) h)) in
+      subst AreSmall (sym (at_if (if_of i e body) e body.0 None refl))
+      (test.0, both_small (joined (map values body.0)) [] (small_block inner k) tt)
   small_stmt (if_else i o c l {a = a} {b = b} {d = d'} {e = e} {body = body} {other = other} d inner outer) h =
       let front : List Lexeme = mark (codes "if") i ∷ mark (codes "(") o ∷ [] in
       let last : List Lexeme = mark (codes "else") l ∷ d' in
       let test = first_small front a (mark (codes ")") c ∷ (b ++ last)) e d h in
-      let k : Runs (b ++ last) = behind (mark (codes ")") c ∷ []) (b ++ last) (behind a (mark (codes ")") c ∷ (b ++ last)) (behind front (a ++ (mark (codes ")") c ∷ (b ++ last))) h)) in
+      let k : Runs (b ++ last) = behind (mark (codes ")") c ∷ []) (b ++ last)
+      (behind a (mark (codes ")") c ∷ (b ++ last)) (behind front (a ++ (mark (codes ")") c ∷ (b ++ last))) h)) in
       let m : Runs d' = behind (mark (codes "else") l ∷ []) d' (behind b last k) in
-      subst AreSmall (sym (at_if (if_else_of i e body other) e body.0 (Some other.0) refl))
-      (test.0, both_small (joined (map values body.0)) (joined (map values other.0)) (small_block inner (before b last k)) (small_block outer m))
+      subst AreSmall (sym (at_if (if_else_of i e body other) e body.0 (Some other.0) refl)) (
+        test.0,
+        both_small (joined (map values body.0)) (joined (map values other.0))
+            (small_block inner (before b last k)) (small_block outer m),
+      )
 
   small_block : {shut : Bool} {a : List Lexeme} {body : Body} → SpellsBlock shut a body → Runs a
       → AreSmall (joined (map values body.0))
   small_block (single {s = s} d) h = both_small (values s) [] (small_stmt d h) tt
-  small_block (braces o c {a = a} d) h = small_run d (before a (mark (codes "}") c ∷ []) (behind (mark (codes "{") o ∷ []) (a ++ mark (codes "}") c ∷ []) h))
+  small_block (braces o c {a = a} d) h =
+      small_run d (before a (mark (codes "}") c ∷ [])
+      (behind (mark (codes "{") o ∷ []) (a ++ mark (codes "}") c ∷ []) h))
 
   small_run : {a : List Lexeme} {ss : List Statement} → SpellsRun a ss → Runs a → AreSmall (joined (map values ss))
   small_run no_statement h = tt
@@ -124,27 +148,33 @@ function_values f = joined (map values f.body)
 small_functions : {a : List Lexeme} {fs : List FunctionTree} → SpellsFunctions a fs → Runs a
     → AreSmall (joined (map function_values fs))
 small_functions no_function h = tt
-small_functions (one_function {word = word} f n o c b z {a = a} {d = d} {more = more} {ss = ss} {fs = fs} ps body others) h =
+small_functions (one_function {word = word} f n o c b z {a = a} {d = d} {more = more} {ss = ss} {fs = fs} ps body
+    others) h =
     let front : List Lexeme = mark (codes "function") f ∷ lex (Name word) n ∷ mark (codes "(") o ∷ [] in
     let last : List Lexeme = mark (codes "}") z ∷ more in
     let inner : List Lexeme = mark (codes ")") c ∷ mark (codes "{") b ∷ (d ++ last) in
-    let k : Runs (d ++ last) = behind (mark (codes ")") c ∷ mark (codes "{") b ∷ []) (d ++ last) (behind a inner (behind front (a ++ inner) h)) in
-    both_small (joined (map values ss)) (joined (map function_values fs)) (small_run body (before d last k)) (small_functions others (behind (mark (codes "}") z ∷ []) more (behind d last k)))
+    let k : Runs (d ++ last) = behind (mark (codes ")") c ∷ mark (codes "{") b ∷ []) (d ++ last)
+    (behind a inner (behind front (a ++ inner) h)) in
+    both_small (joined (map values ss)) (joined (map function_values fs)) (small_run body (before d last k))
+    (small_functions others (behind (mark (codes "}") z ∷ []) more (behind d last k)))
 
 pub small_tree : {a : List Lexeme} {tree : Tree} → SpellsFile a tree → Runs a → AreSmall (tree_values tree)
 small_tree (contract {word = word} k n o c b z {a = a} {d = d} ps fs) h =
     let front : List Lexeme = mark (codes "contract") k ∷ lex (Name word) n ∷ mark (codes "(") o ∷ [] in
     let last : List Lexeme = mark (codes "}") z ∷ [] in
     let inner : List Lexeme = mark (codes ")") c ∷ mark (codes "{") b ∷ (d ++ last) in
-    let m : Runs (d ++ last) = behind (mark (codes ")") c ∷ mark (codes "{") b ∷ []) (d ++ last) (behind a inner (behind front (a ++ inner) h)) in
+    let m : Runs (d ++ last) = behind (mark (codes ")") c ∷ mark (codes "{") b ∷ []) (d ++ last)
+    (behind a inner (behind front (a ++ inner) h)) in
     small_functions fs (before d last m)
 small_tree (one_constraint p w z {a = a} {more = more} d t) h =
     let front : List Lexeme = mark (codes "pragma") p ∷ mark (codes "cashscript") w ∷ [] in
-    small_tree t (behind (mark (codes ";") z ∷ []) more (behind a (mark (codes ";") z ∷ more) (behind front (a ++ (mark (codes ";") z ∷ more)) h)))
+    small_tree t (behind (mark (codes ";") z ∷ []) more
+    (behind a (mark (codes ";") z ∷ more) (behind front (a ++ (mark (codes ";") z ∷ more)) h)))
 small_tree (two_constraints p w z {a = a} {b = b} {more = more} d d' t) h =
     let front : List Lexeme = mark (codes "pragma") p ∷ mark (codes "cashscript") w ∷ [] in
     let last : List Lexeme = mark (codes ";") z ∷ more in
-    small_tree t (behind (mark (codes ";") z ∷ []) more (behind b last (behind a (b ++ last) (behind front (a ++ (b ++ last)) h))))
+    small_tree t (behind (mark (codes ";") z ∷ []) more
+    (behind b last (behind a (b ++ last) (behind front (a ++ (b ++ last)) h))))
 
 pub all_small : (ts : List Lexeme) (tree : Tree) → tree_of ts ≡ Some tree → deepest_token ts ≡ None
     → AreSmall (tree_values tree)

@@ -60,7 +60,8 @@ value_found ts x q =
     let e = bind_some _ _ x q in
     let c = bind_some _ _ x e.2 in
     let h = sound whole_part ts e.0 e.1 in
-    subst (λ (z : (Expression × Span) × List Lexeme). Valued ts z) (some_is c.2) (record { a = h.0; takes = joint h.1 (eats c.1); spelled = h.2 })
+    subst (λ (z : (Expression × Span) × List Lexeme). Valued ts z) (some_is c.2)
+    (record { a = h.0; takes = joint h.1 (eats c.1); spelled = h.2 })
 
 -- an expression, `)` and `;`
 record Tested (ts : List Lexeme) (x : (Expression × Span) × List Lexeme) : Type 0 where
@@ -75,7 +76,8 @@ test_found ts x q =
     let c = bind_some _ _ x e.2 in
     let z = bind_some _ _ x c.2 in
     let h = sound whole_part ts e.0 e.1 in
-    subst (λ (y : (Expression × Span) × List Lexeme). Tested ts y) (some_is z.2) (record { a = h.0; c = c.0.0; takes = joint h.1 (joint (eats c.1) (eats z.1)); spelled = h.2 })
+    subst (λ (y : (Expression × Span) × List Lexeme). Tested ts y) (some_is z.2)
+    (record { a = h.0; c = c.0.0; takes = joint h.1 (joint (eats c.1) (eats z.1)); spelled = h.2 })
 
 -- a word, a dot and a name
 record Clock (word field : List ℕ) (ts : List Lexeme) (x : Unit {0} × List Lexeme) : Type 0 where
@@ -92,8 +94,10 @@ clock_found word field ts x q =
     let w = bind_some _ _ x d.2 in
     let n = named (this_text field) d.0.1 w.0 w.1 in
     let field-is : n.text ≡ field = this_text_is field n.text w.0.0.0 n.is in
-    let at-field : Takes d.0.1 (lex (Name field) w.0.0.1 ∷ []) w.0.1 = subst (λ (z : List ℕ). Takes d.0.1 (lex (Name z) w.0.0.1 ∷ []) w.0.1) field-is n.takes in
-    subst (λ (y : Unit {0} × List Lexeme). Clock word field ts y) (some_is w.2) (record { s = s.0.0; d = d.0.0; w = w.0.0.1; takes = joint (eats s.1) (joint (eats d.1) at-field) })
+    let at-field : Takes d.0.1 (lex (Name field) w.0.0.1 ∷ []) w.0.1 = subst
+    (λ (z : List ℕ). Takes d.0.1 (lex (Name z) w.0.0.1 ∷ []) w.0.1) field-is n.takes in
+    subst (λ (y : Unit {0} × List Lexeme). Clock word field ts y) (some_is w.2)
+    (record { s = s.0.0; d = d.0.0; w = w.0.0.1; takes = joint (eats s.1) (joint (eats d.1) at-field) })
 
 -- the words `constant` in front
 record Constant (ts : List Lexeme) (x : Bool × List Lexeme) : Type 0 where
@@ -128,7 +132,12 @@ age_sound r o ts us (Some b) x front at q =
     let e = bind_some _ _ x g.2 in
     let k = clock_found (codes "this") (codes "age") us b at in
     let h = test_found g.0.1 e.0 e.1 in
-    simply ts e.2 (_, joint front (joint k.takes (joint (eats g.1) h.takes)), age r o k.s k.d k.w g.0.0 h.c e.0.0.1 h.spelled)
+    simply ts e.2 (
+      _,
+      joint front (joint k.takes (joint (eats g.1) h.takes)),
+      age r o k.s k.d k.w g.0.0 h.c e.0.0.1
+          h.spelled,
+    )
 age_sound r o ts us None x front at q =
     let e = bind_some _ _ x q in
     let h = test_found us e.0 e.1 in
@@ -142,10 +151,16 @@ time_sound r o ts us (Some b) x front at q =
     let e = bind_some _ _ x g.2 in
     let k = clock_found (codes "tx") (codes "time") us b at in
     let h = test_found g.0.1 e.0 e.1 in
-    simply ts e.2 (_, joint front (joint k.takes (joint (eats g.1) h.takes)), time r o k.s k.d k.w g.0.0 h.c e.0.0.1 h.spelled)
+    simply ts e.2 (
+      _,
+      joint front (joint k.takes (joint (eats g.1) h.takes)),
+      time r o k.s k.d k.w g.0.0 h.c e.0.0.1
+          h.spelled,
+    )
 time_sound r o ts us None x front at q = age_sound r o ts us (clock_at (codes "this") (codes "age") us) x front refl q
 
-comma_sound : (s : Span) (ty : Ty) (k : Bool) (p : Span) (word : List ℕ) (ts a us : List Lexeme) (m : Option (Span × List Lexeme)) (x : Statement × List Lexeme)
+comma_sound : (s : Span) (ty : Ty) (k : Bool) (p : Span) (word : List ℕ) (ts a us : List Lexeme)
+    (m : Option (Span × List Lexeme)) (x : Statement × List Lexeme)
     → Constants k a → Takes ts (lex (Type_ ty) s ∷ (a ++ lex (Name word) p ∷ [])) us → eaten (codes ",") us ≡ m
     → comma_step s ty k p us m ≡ Some x → Simple ts x
 comma_sound s ty true p word ts a us (Some m) x constants front at q = absurd cc
@@ -155,16 +170,25 @@ comma_sound s ty false p word ts a us (Some m) x constants front at q =
     let g = bind_some _ _ x n.2 in
     let e = bind_some _ _ x g.2 in
     let h = value_found g.0.1 e.0 e.1 in
-    simply ts e.2
-    (_, joint (subst (λ (z : List Lexeme). Takes ts (lex (Type_ ty) s ∷ (z ++ lex (Name word) p ∷ [])) us) (none_constant constants refl) front) (joint (eats at) (joint (takes_type m.1 ty'.0 ty'.1) (joint (takes_name ty'.0.1 n.0 n.1) (joint (eats g.1) h.takes)))), pair p m.0 n.0.0.1 g.0.0 e.0.0.1 h.spelled)
+    simply ts e.2 (
+      _,
+      joint (subst (λ (z : List Lexeme). Takes ts (lex (Type_ ty) s ∷ (z ++ lex (Name word) p ∷ [])) us)
+          (none_constant constants refl) front)
+          (joint (eats at) (joint (takes_type m.1 ty'.0 ty'.1)
+          (joint (takes_name ty'.0.1 n.0 n.1) (joint (eats g.1) h.takes)))),
+      pair p m.0 n.0.0.1 g.0.0 e.0.0.1 h.spelled,
+    )
 comma_sound s ty k p word ts a us None x constants front at q =
     let g = bind_some _ _ x q in
     let e = bind_some _ _ x g.2 in
     let h = value_found g.0.1 e.0 e.1 in
     let last : List Lexeme = mark (codes "=") g.0.0 ∷ (h.a ++ mark (codes ";") e.0.0.1 ∷ []) in
-    let split : Takes ts (lex (Type_ ty) s ∷ ((a ++ lex (Name word) p ∷ []) ++ last)) e.0.1 = joint front (joint (eats g.1) h.takes) in
-    let regroup : (a ++ lex (Name word) p ∷ []) ++ last ≡ a ++ (lex (Name word) p ∷ last) = append_assoc a (lex (Name word) p ∷ []) last in
-    let whole : Takes ts (lex (Type_ ty) s ∷ (a ++ (lex (Name word) p ∷ last))) e.0.1 = subst (λ (z : List Lexeme). Takes ts (lex (Type_ ty) s ∷ z) e.0.1) regroup split in
+    let split : Takes ts (lex (Type_ ty) s ∷ ((a ++ lex (Name word) p ∷ []) ++ last)) e.0.1 = joint front
+    (joint (eats g.1) h.takes) in
+    let regroup : (a ++ lex (Name word) p ∷ []) ++ last ≡ a ++ (lex (Name word) p ∷ last) = append_assoc a
+    (lex (Name word) p ∷ []) last in
+    let whole : Takes ts (lex (Type_ ty) s ∷ (a ++ (lex (Name word) p ∷ last))) e.0.1 = subst
+    (λ (z : List Lexeme). Takes ts (lex (Type_ ty) s ∷ z) e.0.1) regroup split in
     simply ts e.2 (_, whole, define k word p g.0.0 e.0.0.1 constants h.spelled)
 
 typed_sound : (ts : List Lexeme) (o : Option ((Ty × Span) × List Lexeme)) (x : Statement × List Lexeme)
@@ -225,7 +249,8 @@ found g ts q h = subst (λ z. Sound g ts z) (some_is q) h
 
 module _ (read : Reader) (good : Gives-good Goal Value Sound read) where
   -- behind the test of an if
-  else_sound : (i o c : Span) (e : Expression) (ts a us b rest : List Lexeme) (body : Body) (l : Option (Span × List Lexeme)) (x : Statement × List Lexeme)
+  else_sound : (i o c : Span) (e : Expression) (ts a us b rest : List Lexeme) (body : Body)
+      (l : Option (Span × List Lexeme)) (x : Statement × List Lexeme)
       → Takes ts (mark (codes "if") i ∷ mark (codes "(") o ∷ (a ++ mark (codes ")") c ∷ [])) us → Takes us b rest
       → SpellsExpr a e → SpellsBlock (else_follows rest) b body
       → eaten (codes "else") rest ≡ l → else_step read i e body rest l ≡ Some x → Sound statement ts x
@@ -234,14 +259,20 @@ module _ (read : Reader) (good : Gives-good Goal Value Sound read) where
       let h = good block l.1 r.0 r.1 in
       let shut : SpellsBlock true b body = subst (λ (z : Bool). SpellsBlock z b body) (ap is_followed at) inner in
       let regroup = append_assoc a (mark (codes ")") c ∷ []) (b ++ (mark (codes "else") l.0 ∷ h.0)) in
-      found statement ts r.2 (_, rw regroup at (joint front (joint split (joint (eats at) h.1))), if_else i o c l.0 d shut h.2)
+      found statement ts r.2 (
+        _,
+        rw regroup at (joint front (joint split (joint (eats at) h.1))),
+        if_else i o c l.0 d
+            shut h.2,
+      )
   else_sound i o c e ts a us b rest body None x front split d inner at q =
       let open_end : SpellsBlock false b body = subst (λ (z : Bool). SpellsBlock z b body) (ap is_followed at) inner in
       let regroup = append_assoc a (mark (codes ")") c ∷ []) b in
       found statement ts q (
         _,
         rw regroup at (joint front split),
-        subst (λ (z : Bool). SpellsStmt z (mark (codes "if") i ∷ mark (codes "(") o ∷ (a ++ (mark (codes ")") c ∷ b))) (if_of i e body)) (sym (ap is_followed at)) (if_only i o c d open_end),
+        subst (λ (z : Bool). SpellsStmt z (mark (codes "if") i ∷ mark (codes "(") o ∷ (a ++ (mark (codes ")") c ∷ b)))
+            (if_of i e body)) (sym (ap is_followed at)) (if_only i o c d open_end),
       )
 
   statement_sound : (ts : List Lexeme) (o : Option (Span × List Lexeme)) (x : Statement × List Lexeme)
@@ -253,7 +284,8 @@ module _ (read : Reader) (good : Gives-good Goal Value Sound read) where
       let body = bind_some _ _ x c.2 in
       let d = sound whole_part o.0.1 e.0 e.1 in
       let h = good block c.0.1 body.0 body.1 in
-      else_sound i.0 o.0.0 c.0.0 e.0.0 ts d.0 c.0.1 h.0 body.0.1 body.0.0 (eaten (codes "else") body.0.1) x (joint (eats at) (joint (eats o.1) (joint d.1 (eats c.1)))) h.1 d.2 h.2 refl body.2
+      else_sound i.0 o.0.0 c.0.0 e.0.0 ts d.0 c.0.1 h.0 body.0.1 body.0.0 (eaten (codes "else") body.0.1) x
+      (joint (eats at) (joint (eats o.1) (joint d.1 (eats c.1)))) h.1 d.2 h.2 refl body.2
   statement_sound ts None x at q = let h = simple_sound ts x q in (h.0, h.1, simple h.2)
 
   block_sound : (ts : List Lexeme) (o : Option (Span × List Lexeme)) (x : Body × List Lexeme)
@@ -312,7 +344,8 @@ module _ (f h : Reader) (good : Gives-good Goal Value Sound f) where
       → eaten (codes "else") ts ≡ l → 2 * length ts < w → Agrees w
       → else_step f i e body ts l ≡ else_step h i e body ts l
   else_same w i e body ts (Some l) at lt same =
-      let len = eaten_shorter (codes "else") ts l at in ap (λ z. z >>= λ other. Some (if_else_of i e body other.0, other.1)) (same block l.1 (omega arith))
+      let len = eaten_shorter (codes "else") ts l at in ap
+      (λ z. z >>= λ other. Some (if_else_of i e body other.0, other.1)) (same block l.1 (omega arith))
   else_same w i e body ts None at lt same = refl
 
   statement_same : (ts : List Lexeme) (o : Option (Span × List Lexeme)) → eaten (codes "if") ts ≡ o
@@ -332,7 +365,9 @@ module _ (f h : Reader) (good : Gives-good Goal Value Sound f) where
 
   block_same : (ts : List Lexeme) (o : Option (Span × List Lexeme)) → eaten (codes "{") ts ≡ o
       → Agrees (weight block ts) → block_step f ts o ≡ block_step h ts o
-  block_same ts (Some o) at same = let len = eaten_shorter (codes "{") ts o at in ap (λ z. z >>= λ r. Some ((r.0.0, across o.0 r.0.1), r.1)) (same run o.1 (omega arith))
+  block_same ts (Some o) at same =
+      let len = eaten_shorter (codes "{") ts o at in ap (λ z. z >>= λ r. Some ((r.0.0, across o.0 r.0.1), r.1))
+      (same run o.1 (omega arith))
   block_same ts None at same = ap (λ z. z >>= λ s. Some ((s.0 ∷ [], s.0.span), s.1)) (same statement ts (omega arith))
 
   run_same : (ts : List Lexeme) (o : Option (Span × List Lexeme)) → Agrees (weight run ts)
@@ -371,7 +406,8 @@ constants_case ts None = (false, ts)
 constants_case ts (Some c) = (true, (constants_at c.1).1)
 
 case_of : (t : Lexeme) (rest : List Lexeme) (b : Bool)
-    → cond b (true, (constants_at rest).1) (false, t ∷ rest) ≡ constants_case (t ∷ rest) (cond b (Some (t.span, rest)) None)
+    → cond b (true, (constants_at rest).1) (false, t ∷ rest) ≡ constants_case (t ∷ rest)
+    (cond b (Some (t.span, rest)) None)
 case_of t rest true = refl
 case_of t rest false = refl
 

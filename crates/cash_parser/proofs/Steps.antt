@@ -36,7 +36,8 @@ pub one : (t : Lexeme) (rest : List Lexeme) → Takes (t ∷ rest) (t ∷ []) re
 one t rest = record { parts = refl }
 
 pub joint : {ts a us b rest : List Lexeme} → Takes ts a us → Takes us b rest → Takes ts (a ++ b) rest
-joint {a = a} {b = b} {rest = rest} p q = record { parts = p.parts ∙ ap (λ (z : List Lexeme). a ++ z) q.parts ∙ sym (append_assoc a b rest) }
+joint {a = a} {b = b} {rest = rest} p q =
+    record { parts = p.parts ∙ ap (λ (z : List Lexeme). a ++ z) q.parts ∙ sym (append_assoc a b rest) }
 
 pub chosen : {A : Type 0} (b : Bool) (x y : A) → cond b (Some x) None ≡ Some y → (b ≡ true) × (x ≡ y)
 chosen true x y e = (refl, some_is e)
@@ -59,7 +60,8 @@ pub eaten_is : (text : List ℕ) (ts : List Lexeme) (x : Span × List Lexeme) �
 eaten_is text [] x e = absurd cc
 eaten_is text (t ∷ rest) x e =
     let h = chosen (is_mark text t.symbol) (t.span, rest) x e in
-    ap (λ (s : Symbol). lex s t.span ∷ rest) (mark_is text t.symbol h.0) ∙ ap (λ (y : Span × List Lexeme). mark text y.0 ∷ y.1) h.1
+    ap (λ (s : Symbol). lex s t.span ∷ rest) (mark_is text t.symbol h.0) ∙
+    ap (λ (y : Span × List Lexeme). mark text y.0 ∷ y.1) h.1
 
 pub eats : {text : List ℕ} {ts : List Lexeme} {x : Span × List Lexeme} → eaten text ts ≡ Some x
     → Takes ts (mark text x.0 ∷ []) x.1
@@ -72,17 +74,19 @@ eaten_shorter text ts x e = ap length (eaten_is text ts x e)
 -- ---- what the lexeme in front stands for
 
 -- the lexeme that was taken
-pub record Taken {A : Type 0} (value : Symbol → Option A) (ts : List Lexeme) (x : (A × Span) × List Lexeme) : Type 0 where
-  pub symbol : Symbol
-  pub parts : ts ≡ lex symbol x.0.1 ∷ x.1
-  pub is : value symbol ≡ Some x.0.0
+pub record Taken {A : Type 0} (value : Symbol → Option A) (ts : List Lexeme) (x : (A × Span) × List Lexeme) : Type 0
+  where
+    pub symbol : Symbol
+    pub parts : ts ≡ lex symbol x.0.1 ∷ x.1
+    pub is : value symbol ≡ Some x.0.0
 
 placed : {A : Type 0} (value : Symbol
     → Option A) (t : Lexeme) (rest : List Lexeme) (o : Option A) (x : (A × Span) × List Lexeme)
     → value t.symbol ≡ o → with_place o t.span rest ≡ Some x → Taken value (t ∷ rest) x
 placed value t rest None x e q = absurd cc
 placed {A = A} value t rest (Some v) x e q =
-    subst (λ (y : (A × Span) × List Lexeme). Taken value (t ∷ rest) y) (some_is q) (record { symbol = t.symbol; parts = refl; is = e })
+    subst (λ (y : (A × Span) × List Lexeme). Taken value (t ∷ rest) y) (some_is q)
+    (record { symbol = t.symbol; parts = refl; is = e })
 
 pub taken_is : {A : Type 0} (value : Symbol → Option A) (ts : List Lexeme) (x : (A × Span) × List Lexeme)
     → taken value ts ≡ Some x → Taken value ts x
@@ -143,15 +147,21 @@ named f ts x e =
 
 pub takes_name : (ts : List Lexeme) (x : (List ℕ × Span) × List Lexeme) → taken name_of ts ≡ Some x
     → Takes ts (lex (Name x.0.0) x.0.1 ∷ []) x.1
-takes_name ts x e = let h = taken_is name_of ts x e in record { parts = h.parts ∙ ap (λ (s : Symbol). lex s x.0.1 ∷ x.1) (name_is h.symbol x.0.0 h.is) }
+takes_name ts x e =
+    let h = taken_is name_of ts x e in
+    record { parts = h.parts ∙ ap (λ (s : Symbol). lex s x.0.1 ∷ x.1) (name_is h.symbol x.0.0 h.is) }
 
 pub takes_type : (ts : List Lexeme) (x : (Ty × Span) × List Lexeme) → taken type_value ts ≡ Some x
     → Takes ts (lex (Type_ x.0.0) x.0.1 ∷ []) x.1
-takes_type ts x e = let h = taken_is type_value ts x e in record { parts = h.parts ∙ ap (λ (s : Symbol). lex s x.0.1 ∷ x.1) (type_is h.symbol x.0.0 h.is) }
+takes_type ts x e =
+    let h = taken_is type_value ts x e in
+    record { parts = h.parts ∙ ap (λ (s : Symbol). lex s x.0.1 ∷ x.1) (type_is h.symbol x.0.0 h.is) }
 
 pub takes_number : (ts : List Lexeme) (x : (ℕ × Span) × List Lexeme) → taken number_value ts ≡ Some x
     → Takes ts (lex (Number x.0.0) x.0.1 ∷ []) x.1
-takes_number ts x e = let h = taken_is number_value ts x e in record { parts = h.parts ∙ ap (λ (s : Symbol). lex s x.0.1 ∷ x.1) (number_is h.symbol x.0.0 h.is) }
+takes_number ts x e =
+    let h = taken_is number_value ts x e in
+    record { parts = h.parts ∙ ap (λ (s : Symbol). lex s x.0.1 ∷ x.1) (number_is h.symbol x.0.0 h.is) }
 
 pub this_text_is : (text other : List ℕ) (u : Unit {0}) → this_text text other ≡ Some u → other ≡ text
 this_text_is text other u e = text_is other text (chosen (is_text other text) tt u e).0
@@ -173,4 +183,5 @@ pub absent : (test : Symbol → Bool) (text : List ℕ) (a rest : List Lexeme) �
 absent test text [] rest h other = absurd (false≢true h)
 absent test text (t ∷ a) rest h other =
     let differs : t.symbol ≡ Mark text → ⊥ = λ e. false≢true (sym other ∙ ap test (sym e) ∙ h) in
-    ap (λ (b : Bool). cond b (Some (t.span, a ++ rest)) None) (not_marked text t.symbol (is_mark text t.symbol) refl differs)
+    ap (λ (b : Bool). cond b (Some (t.span, a ++ rest)) None)
+    (not_marked text t.symbol (is_mark text t.symbol) refl differs)

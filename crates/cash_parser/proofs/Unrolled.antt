@@ -24,7 +24,8 @@ pub operator_shorter : (n : ℕ) (ts : List Lexeme) (o : BinaryOp × List Lexeme
 operator_shorter n ts o e = ap length (operator_found n ts o e).parts
 
 -- Two readers that agree on what weighs less than this agree on one more step.
-module _ (f h : Reader) (shorter : (p : Part) (ts : List Lexeme) (x : Expression × List Lexeme) → f (part p) ts ≡ Some x → length x.1 < length ts) where
+module _ (f h : Reader) (shorter : (p : Part) (ts : List Lexeme) (x : Expression × List Lexeme) → f (part p) ts
+    ≡ Some x → length x.1 < length ts) where
   abbrev Agrees : ℕ → Type 0
   Agrees = Agree-below Goal Value weight f h
 
@@ -34,11 +35,14 @@ module _ (f h : Reader) (shorter : (p : Part) (ts : List Lexeme) (x : Expression
   operators_same k left ts None at same = refl
   operators_same k left ts (Some o) at same =
       let len = operator_shorter (suc k) ts o at in
-      then_same _ _ _ _ (same (part (level k)) o.1 (omega arith)) (λ x e. let s = shorter (level k) o.1 x e in same (operators k (binary_of o.0 left x.0)) x.1 (omega arith))
+      then_same _ _ _ _ (same (part (level k)) o.1 (omega arith))
+      (λ x e. let s = shorter (level k) o.1 x e in same (operators k (binary_of o.0 left x.0)) x.1 (omega arith))
 
   sign_same : (ts : List Lexeme) (o : Option ((UnaryOp × Span) × List Lexeme)) → taken signs ts ≡ o
       → Agrees (weight (part unary) ts) → sign_step f ts o ≡ sign_step h ts o
-  sign_same ts (Some o) at same = let len = taken_shorter signs ts o at in ap (λ z. z >>= λ e. Some (unary_of o.0.0 o.0.1 e.0, e.1)) (same (part unary) o.1 (omega arith))
+  sign_same ts (Some o) at same =
+      let len = taken_shorter signs ts o at in ap (λ z. z >>= λ e. Some (unary_of o.0.0 o.0.1 e.0, e.1))
+      (same (part unary) o.1 (omega arith))
   sign_same ts None at same = same (part postfix) ts (omega arith)
 
   word_same : (e : Expression) (suffix : Suffix) (s : Span) (ts us : List Lexeme) → length us < length ts
@@ -83,12 +87,16 @@ module _ (f h : Reader) (shorter : (p : Part) (ts : List Lexeme) (x : Expression
       → length us < length ts → eaten (codes "(") us ≡ o → Agrees (16 * length ts)
       → call_step f word s us o ≡ call_step h word s us o
   call_same word s ts us (Some o) lt at same =
-      let len = eaten_shorter (codes "(") us o at in ap (λ z. z >>= λ args. Some (call_of word s args.0.0 args.0.1, args.1)) (same (items (codes ")")) o.1 (omega arith))
+      let len = eaten_shorter (codes "(") us o at in ap
+      (λ z. z >>= λ args. Some (call_of word s args.0.0 args.0.1, args.1))
+      (same (items (codes ")")) o.1 (omega arith))
   call_same word s ts us None lt at same = refl
 
   name_same : (ts : List Lexeme) (o : Option ((List ℕ × Span) × List Lexeme)) → taken name_of ts ≡ o
       → Agrees (16 * length ts) → name_step f ts o ≡ name_step h ts o
-  name_same ts (Some w) at same = let len = taken_shorter name_of ts w at in call_same w.0.0 w.0.1 ts w.1 (eaten (codes "(") w.1) (omega arith) refl same
+  name_same ts (Some w) at same =
+      let len = taken_shorter name_of ts w at in call_same w.0.0 w.0.1 ts w.1 (eaten (codes "(") w.1) (omega arith)
+      refl same
   name_same ts None at same = refl
 
   cast_same : (ts : List Lexeme) (o : Option ((Ty × Span) × List Lexeme)) → taken type_value ts ≡ o
@@ -97,7 +105,8 @@ module _ (f h : Reader) (shorter : (p : Part) (ts : List Lexeme) (x : Expression
       let lt = taken_shorter type_value ts ty at in
       then_same _ _ _ _ refl (λ o at_o.
       let lo = eaten_shorter (codes "(") ty.1 o at_o in
-      ap (λ z. z >>= λ args. cast_of ty.0.0 ty.0.1 args.0.0 args.0.1 >>= λ e. Some (e, args.1)) (same (items (codes ")")) o.1 (omega arith)))
+      ap (λ z. z >>= λ args. cast_of ty.0.0 ty.0.1 args.0.0 args.0.1 >>= λ e. Some (e, args.1))
+      (same (items (codes ")")) o.1 (omega arith)))
   cast_same ts None at same = name_same ts (taken name_of ts) refl same
 
   this_same : (ts : List Lexeme) (o : Option (Span × List Lexeme)) → Agrees (16 * length ts)
@@ -110,7 +119,8 @@ module _ (f h : Reader) (shorter : (p : Part) (ts : List Lexeme) (x : Expression
       → side_step f x side us o ≡ side_step h x side us o
   side_same x side ts us (Some o) lt at same =
       let lo = eaten_shorter (codes "[") us o at in
-      ap (λ z. z >>= λ e. eaten (codes "]") e.1 >>= λ c. eaten (codes ".") c.1 >>= λ d. taken (name_value (member_of side)) d.1 >>= λ m. Some (look_at_of x m.0.0 e.0 m.0.1, m.1))
+      ap (λ z. z >>= λ e. eaten (codes "]") e.1 >>= λ c. eaten (codes ".") c.1 >>= λ d. taken
+      (name_value (member_of side)) d.1 >>= λ m. Some (look_at_of x m.0.0 e.0 m.0.1, m.1))
       (same whole_part o.1 (omega arith))
   side_same x side ts us None lt at same = refl
 
@@ -138,41 +148,53 @@ module _ (f h : Reader) (shorter : (p : Part) (ts : List Lexeme) (x : Expression
       let lw = taken_shorter name_of n.1 w at_w in
       then_same _ _ _ _ refl (λ o at_o.
       let lo = eaten_shorter (codes "(") w.1 o at_o in
-      ap (λ z. z >>= λ args. Some (new_of n.0 w.0.0 w.0.1 args.0.0 args.0.1, args.1)) (same (items (codes ")")) o.1 (omega arith))))
+      ap (λ z. z >>= λ args. Some (new_of n.0 w.0.0 w.0.1 args.0.0 args.0.1, args.1))
+      (same (items (codes ")")) o.1 (omega arith))))
   new_same ts None at same = tx_same ts (eaten (codes "tx") ts) refl same
 
   array_same : (ts : List Lexeme) (o : Option (Span × List Lexeme)) → eaten (codes "[") ts ≡ o
       → Agrees (16 * length ts) → array_step f ts o ≡ array_step h ts o
   array_same ts (Some o) at same =
-      let lo = eaten_shorter (codes "[") ts o at in ap (λ z. z >>= λ args. Some (array_of o.0 args.0.0 args.0.1, args.1)) (same (items (codes "]")) o.1 (omega arith))
+      let lo = eaten_shorter (codes "[") ts o at in ap
+      (λ z. z >>= λ args. Some (array_of o.0 args.0.0 args.0.1, args.1))
+      (same (items (codes "]")) o.1 (omega arith))
   array_same ts None at same = new_same ts (eaten (codes "new") ts) refl same
 
   bracket_same : (ts : List Lexeme) (o : Option (Span × List Lexeme)) → eaten (codes "(") ts ≡ o
       → Agrees (16 * length ts) → bracket_step f ts o ≡ bracket_step h ts o
   bracket_same ts (Some o) at same =
-      let lo = eaten_shorter (codes "(") ts o at in ap (λ z. z >>= λ e. eaten (codes ")") e.1 >>= λ c. Some (bracketed o.0 e.0 c.0, c.1)) (same whole_part o.1 (omega arith))
+      let lo = eaten_shorter (codes "(") ts o at in ap
+      (λ z. z >>= λ e. eaten (codes ")") e.1 >>= λ c. Some (bracketed o.0 e.0 c.0, c.1))
+      (same whole_part o.1 (omega arith))
   bracket_same ts None at same = array_same ts (eaten (codes "[") ts) refl same
 
-  comma_same : (close : List ℕ) (ts : List Lexeme) (e : Expression) (us : List Lexeme) (o : Option (Span × List Lexeme)) → eaten (codes ",") us ≡ o → length us < length ts → Agrees (weight (items close) ts)
+  comma_same : (close : List ℕ) (ts : List Lexeme) (e : Expression) (us : List Lexeme)
+      (o : Option (Span × List Lexeme)) → eaten (codes ",") us ≡ o → length us < length ts
+      → Agrees (weight (items close) ts)
       → comma_step f close e us o ≡ comma_step h close e us o
   comma_same close ts e us (Some comma) at lt same =
-      let len = eaten_shorter (codes ",") us comma at in ap (λ z. z >>= λ others. Some ((e ∷ others.0.0, others.0.1), others.1)) (same (items close) comma.1 (omega arith))
+      let len = eaten_shorter (codes ",") us comma at in ap
+      (λ z. z >>= λ others. Some ((e ∷ others.0.0, others.0.1), others.1))
+      (same (items close) comma.1 (omega arith))
   comma_same close ts e us None at lt same = refl
 
   items_same : (close : List ℕ) (ts : List Lexeme) (o : Option (Span × List Lexeme))
       → Agrees (weight (items close) ts) → items_step f close ts o ≡ items_step h close ts o
   items_same close ts (Some c) same = refl
   items_same close ts None same =
-      then_same _ _ _ _ (same whole_part ts (omega arith)) (λ x e. comma_same close ts x.0 x.1 (eaten (codes ",") x.1) refl (shorter (level loosest) ts x e) same)
+      then_same _ _ _ _ (same whole_part ts (omega arith))
+      (λ x e. comma_same close ts x.0 x.1 (eaten (codes ",") x.1) refl (shorter (level loosest) ts x e) same)
 
   step_same : (g : Goal) (ts : List Lexeme) → Agrees (weight g ts) → step f g ts ≡ step h g ts
   step_same (part primary) ts same = bracket_same ts (eaten (codes "(") ts) refl (λ g us lt. same g us (omega arith))
   step_same (part postfix) ts same =
-      then_same _ _ _ _ (same (part primary) ts (omega arith)) (λ x e. let s = shorter primary ts x e in same (suffixes_of x.0) x.1 (omega arith))
+      then_same _ _ _ _ (same (part primary) ts (omega arith))
+      (λ x e. let s = shorter primary ts x e in same (suffixes_of x.0) x.1 (omega arith))
   step_same (part unary) ts same = sign_same ts (taken signs ts) refl same
   step_same (part (level zero)) ts same = same (part unary) ts (omega arith)
   step_same (part (level (suc k))) ts same =
-      then_same _ _ _ _ (same (part (level k)) ts (omega arith)) (λ x e. let s = shorter (level k) ts x e in same (operators k x.0) x.1 (omega arith))
+      then_same _ _ _ _ (same (part (level k)) ts (omega arith))
+      (λ x e. let s = shorter (level k) ts x e in same (operators k x.0) x.1 (omega arith))
   step_same (operators k left) ts same = operators_same k left ts (operator_at (suc k) ts) refl same
   step_same (suffixes_of e) ts same = suffix_same e ts (eaten (codes ".") ts) refl (λ g us lt. same g us (omega arith))
   step_same (items close) ts same = items_same close ts (eaten close ts) same

@@ -10,3 +10,4 @@ pub mod FileReading
 pub mod DepthRules
 pub mod Answer
 pub mod Nodes
+pub mod Inside

@@ -44,11 +44,11 @@ nodes = fold-Expr Span (Unit {0}) ℕ ℕ kind_nodes node_nodes
 
 -- ---- the expressions of a tree that stand in no other
 
-abbrev pub joined : List (List Expression) → List Expression
+abbrev pub joined : {A : Type 0} → List (List A) → List A
 joined [] = []
 joined (es ∷ more) = es ++ joined more
 
-abbrev pub joined_or_none : Option (List (List Expression)) → List Expression
+abbrev pub joined_or_none : {A : Type 0} → Option (List (List A)) → List A
 joined_or_none (Some more) = joined more
 joined_or_none None = []
 

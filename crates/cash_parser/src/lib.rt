@@ -9,6 +9,7 @@ mod front;
 mod literals;
 mod nodes;
 mod parsing;
+mod spans;
 mod statements;
 #[cfg(test)]
 mod tests;
@@ -16,3 +17,4 @@ mod words;
 
 pub use fault::{DepthRule, ParseFault};
 pub use parsing::{one_tree, parse};
+pub use spans::{spans_come_apart, tokens_stand_in_order};

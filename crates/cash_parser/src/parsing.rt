@@ -5,6 +5,7 @@ ghost use Rattle.cash_parser.specs.Lexemes.{Lexeme, lexemes};
 ghost use Rattle.cash_parser.specs.DepthRules;
 ghost use Rattle.cash_parser.specs.Files.{Tree as Spelled, SpellsFile};
 ghost use Rattle.cash_parser.specs.Nodes.{AreSmall, tree_values};
+ghost use Rattle.cash_parser.specs.Inside.{StandInOrder, AreInside, tree_spans};
 ghost use Rattle.cash_parser.specs.Answer.{IsNone, OnSyntax, IsDeep};
 
 use crate::depth::deepest_token;
@@ -44,6 +45,9 @@ pub fn parse(alloc: Global, source: &str, tokens: &[Token]) -> Result<Tree, Pars
     ensures deep { IsDeep result (DepthRules.deepest_token (lexemes source.now tokens.now)) }
     // Each expression of an answered tree has at most 1,000 nodes, since each node has a token of its own.
     ensures small { IfOk result (λ tree. AreSmall (tree_values tree)) }
+    // Where the tokens stand in order in the source, as those of its text do, all spans of an answered tree lie in it.
+    ensures inside { IfOk result (λ tree. StandInOrder 0 tokens.now (length source.now)
+        → AreInside (length source.now) (tree_spans tree)) }
     // The token where the parser stopped is one of them, or their end.
     ensures place { OnSyntax result (λ token. token ≤ length tokens.now) }
 {

@@ -58,7 +58,8 @@ decreases-items l = 16 * length (lexemes l.source.now l.tokens.now) + 14
 abbrev pub invariant-items-loop-end : goal.invariant-items-loop-end
 invariant-items-loop-end l = record {
   shorter : length (lexemes l.source l.rest) ≤ length (lexemes l.source l.tokens);
-  same : with_front l.found (reading (spec.items l.close) (lexemes l.source l.rest)) ≡ reading (spec.items l.close) (lexemes l.source l.tokens);
+  same : with_front l.found (reading (spec.items l.close) (lexemes l.source l.rest))
+      ≡ reading (spec.items l.close) (lexemes l.source l.tokens);
 }
 
 abbrev pub decreases-items-loop-end : goal.decreases-items-loop-end

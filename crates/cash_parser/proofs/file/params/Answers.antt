@@ -10,13 +10,16 @@ use Rattle.cash_parser.proofs.file.params.Goals as goal
 pub returns-in-Some : goal.returns-in-Some
 returns-in-Some c =
     let s = c.args.source.now in
-    sym c.loop-end.invariant ∙ no_more_params c.loop-end.found (lexemes s c.loop-end.rest.now) (c.in-Some.end, lexemes s c.in-Some.behind.now) (sym c.in-Some.ensures)
+    sym c.loop-end.invariant ∙ no_more_params c.loop-end.found (lexemes s c.loop-end.rest.now)
+    (c.in-Some.end, lexemes s c.in-Some.behind.now) (sym c.in-Some.ensures)
 
 pub loop-end-smaller : goal.loop-end-smaller
 loop-end-smaller c =
     let s = c.args.source.now in
-    let a = param_shorter_of (lexemes s c.loop-end.rest.now) (c.in_ok-one.one, lexemes s c.in_ok-one.after.now) c.in_ok-one.ensures in
-    let b = eaten_shorter (codes ",") (lexemes s c.in_ok-one.after.now) (c.in-Some-eat.field-0-0, lexemes s c.in-Some-eat.behind.now) (sym c.in-Some-eat.ensures) in
+    let a = param_shorter_of (lexemes s c.loop-end.rest.now) (c.in_ok-one.one, lexemes s c.in_ok-one.after.now)
+    c.in_ok-one.ensures in
+    let b = eaten_shorter (codes ",") (lexemes s c.in_ok-one.after.now)
+    (c.in-Some-eat.field-0-0, lexemes s c.in-Some-eat.behind.now) (sym c.in-Some-eat.ensures) in
     omega arith
 
 pub loop-end-preserved : goal.loop-end-preserved
@@ -24,5 +27,6 @@ loop-end-preserved c =
     let s = c.args.source.now in
     let p : Param Span × List Lexeme = (c.in_ok-one.one, lexemes s c.in_ok-one.after.now) in
     let comma : Span × List Lexeme = (c.in-Some-eat.field-0-0, lexemes s c.in-Some-eat.behind.now) in
-    let one = one_more_param c.loop-end.found (lexemes s c.loop-end.rest.now) p comma (sym c.in_default.ensures) c.in_ok-one.ensures (sym c.in-Some-eat.ensures) in
+    let one = one_more_param c.loop-end.found (lexemes s c.loop-end.rest.now) p comma (sym c.in_default.ensures)
+    c.in_ok-one.ensures (sym c.in-Some-eat.ensures) in
     rw c.in_ok-push.ensures.ok (sym one ∙ c.loop-end.invariant)

@@ -5,7 +5,8 @@ use Rattle.cash_parser.proofs.FileLoop.{with_front}
 use Rattle.cash_parser.proofs.file.params.Given as goal
 
 abbrev pub invariant-loop-end : goal.invariant-loop-end
-invariant-loop-end l = with_front l.found (file_reading params (lexemes l.source l.rest)) ≡ file_reading params (lexemes l.source l.tokens)
+invariant-loop-end l =
+    with_front l.found (file_reading params (lexemes l.source l.rest)) ≡ file_reading params (lexemes l.source l.tokens)
 
 abbrev pub decreases-loop-end : goal.decreases-loop-end
 decreases-loop-end l = length (lexemes l.source l.rest)

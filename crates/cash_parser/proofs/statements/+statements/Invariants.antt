@@ -16,7 +16,8 @@ decreases-several l = 2 * length (lexemes l.source.now l.tokens.now) + 1
 abbrev pub invariant-several-loop-close : goal.invariant-several-loop-close
 invariant-several-loop-close l = record {
   shorter : length (lexemes l.source l.rest) ≤ length (lexemes l.source l.tokens);
-  same : with_front l.statements (statement_reading run (lexemes l.source l.rest)) ≡ statement_reading run (lexemes l.source l.tokens);
+  same : with_front l.statements (statement_reading run (lexemes l.source l.rest))
+      ≡ statement_reading run (lexemes l.source l.tokens);
 }
 
 abbrev pub decreases-several-loop-close : goal.decreases-several-loop-close
