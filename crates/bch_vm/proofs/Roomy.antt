@@ -32,7 +32,7 @@ clean-in_room last (e ∷ []) = refl
 clean-in_room last (e ∷ a ∷ rest) = refl
 
 -- the test of a top, by its truth
-abbrev tested : Bool → ℕ → Course (Unit {0})
+abbrev pub tested : Bool → ℕ → Course (Unit {0})
 tested truth last = cond truth (Gives tt) (Stops (Refused Redeem last EndFalse))
 
 end-in_room : (end : State) → IsTrue (is_in_room (outcome_of (behind_redeem end)))

@@ -4,6 +4,7 @@ use Rattle.std.specs.List.{AllByRecursion}
 use Rattle.cash_base.specs.declared.fault.MachineCause.{MachineCause}
 use Rattle.cash_base.specs.declared.fault.MachineCause.TheVariants.{OpLimit, StackLimit}
 use Rattle.cash_base.specs.Element.{IsElement}
+use Rattle.cash_base.specs.Number.{truth_of}
 use Rattle.ripemd160.specs.Ripemd160.{ripemd160}
 use Rattle.sha2.specs.Sha256.{sha256}
 use Rattle.tx_context.specs.Transaction.{Transaction}
@@ -16,7 +17,7 @@ use Rattle.bch_vm.specs.declared.outcome.Which.TheVariants.{Redeem}
 use Rattle.bch_vm.specs.declared.outcome.MachineOutcome.{MachineOutcome}
 use Rattle.bch_vm.specs.declared.outcome.MachineOutcome.TheVariants.{Accepted, Refused}
 use Rattle.bch_vm.specs.Stack.{Stack}
-use Rattle.bch_vm.specs.Script.{State}
+use Rattle.bch_vm.specs.Script.{State, stack_at_end}
 use Rattle.bch_vm.specs.Course.{outcome_of}
 use Rattle.bch_vm.specs.Spend.{spent_input, behind_redeem}
 
@@ -55,6 +56,10 @@ pub record IsSmall (elements : Stack) (code : List Instr) : Type 0 where
 abbrev pub decided_by : Result State Failure → MachineOutcome
 decided_by (Ok end) = outcome_of (behind_redeem end)
 decided_by (Err failure) = Refused Redeem failure.at failure.cause
+
+-- the run ends with one element, which is true
+abbrev pub EndsTrue : Result State Failure → Type 0
+EndsTrue r = (e : List ℕ) × (stack_at_end r ≡ Ok (e ∷ [])) × (truth_of e ≡ true)
 
 -- ---- limits of a spend that a run of instructions doesn't have
 

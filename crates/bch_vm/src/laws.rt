@@ -1,13 +1,15 @@
 //! A spend of code as a redeem script is decided by the run of its instructions.
 
-ghost use Rattle.std.specs.Prelude.{◌≡◌, ℕ, List, IsTrue};
+ghost use Rattle.std.specs.Prelude.{◌≡◌, ◌↔◌, ℕ, List, Result, IsTrue};
 ghost use Rattle.tx_context.specs.Transaction.{Transaction};
 ghost use Rattle.tx_context.specs.Table.{Row as Verdict};
 ghost use Rattle.script_codec.specs.declared.instr.Instr.{Instr};
+ghost use Rattle.bch_vm.specs.declared.failure.Failure.{Failure};
+ghost use Rattle.bch_vm.specs.declared.outcome.MachineOutcome.TheVariants.{Accepted};
 ghost use Rattle.bch_vm.specs.Stack.{Stack};
-ghost use Rattle.bch_vm.specs.Script.{run_end};
+ghost use Rattle.bch_vm.specs.Script.{State, run_end};
 ghost use Rattle.bch_vm.specs.Spend.{spend_outcome};
-ghost use Rattle.bch_vm.specs.Law.{IsRedeemed, IsSmall, decided_by, is_in_room};
+ghost use Rattle.bch_vm.specs.Law.{IsRedeemed, IsSmall, EndsTrue, decided_by, is_in_room};
 
 use script_codec::laws::{meaning_of_spelled, reading_behind_encoded, reading_in_turn};
 
@@ -52,3 +54,8 @@ pub fn spend_is_decided()
     redeemed_code_decides();
     spend_stays_in_room();
 }
+
+/// A run decides that a spend is accepted exactly where it ends with one element, which is true.
+pub fn accepted_by_one_true_element()
+    ensures { (r : Result State Failure) → (decided_by r ≡ Accepted) ↔ EndsTrue r }
+{}
