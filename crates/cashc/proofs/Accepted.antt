@@ -42,14 +42,14 @@ nodes_at_name e slot is = search (rules, the_lemmas)
 nodes_at_binary : (e : Expr Slot Ty) (op : BinaryOp) (left right : Expr Slot Ty) → e.kind ≡ nodes.Binary op left right → node_count e ≡ node_count left + node_count right + 1
 nodes_at_binary e op left right is = search (rules, the_lemmas)
 
-number_runnable : (e : Expr Slot Ty) (digits unit count : ℕ) → e.kind ≡ nodes.Int digits unit → digits ≤ 16 → unit ≡ 1 → is_runnable e count ≡ true
-number_runnable e digits unit count is low one =
-    let small : digits * unit < 2 ^ 63 = subst (λ u. digits * u < 2 ^ 63) (sym one) (omega (arith, low)) in
+number_runnable : (e : Expr Slot Ty) (digits unit count : ℕ) → e.kind ≡ nodes.Int digits unit → digits * unit ≤ 16 → is_runnable e count ≡ true
+number_runnable e digits unit count is low =
+    let small : digits * unit < 2 ^ 63 = omega (arith, low) in
     ap (λ t. t count) (test_at_number e digits unit is) ∙ lt-ltb (digits * unit) (2 ^ 63) small
 
 operand_runnable : (e : Expr Slot Ty) (count : ℕ) → IsOperandKind count e.kind → (is_runnable e count ≡ true) × (node_count e ≡ 1)
 operand_runnable e count (inl (n, within, is)) = (ap (λ t. t count) (test_at_name e (slot n) is) ∙ lt-ltb n count within, nodes_at_name e (slot n) is)
-operand_runnable e count (inr (n, low, is)) = (number_runnable e n 1 count is low refl, nodes_at_number e n 1 is)
+operand_runnable e count (inr (digits, unit, low, is)) = (number_runnable e digits unit count is low, nodes_at_number e digits unit is)
 
 comparison_runnable : (count : ℕ) (s : Stmt Slot Ty) (h : IsComparison count s) → IsRunnable count h.value
 comparison_runnable count s h =

@@ -1,172 +1,149 @@
--- The contract that tokens stand for is an equality.
-use Rattle.std.proofs.Common.{◌≡◌, ℕ, zero, suc, ◌+◌, ◌<◌, ◌≤◌, Bool, true, false, cond, List, [], ◌∷◌, length, Option, Some, None, refl, sym, ap, subst, arith, position, inl, inr}
-use Rattle.std.specs.Prelude.{codes, IfSome, ◌==◌}
+-- The contract that a tree of the form stands for is an equality.
+use Rattle.std.proofs.Common.{◌≡◌, ℕ, ◌+◌, ◌*◌, ◌<◌, ◌≤◌, Bool, true, false, cond, List, [], ◌∷◌, length, Option, Some, None, suc, refl, sym, ap, ◌∙◌, subst, arith, inl, inr}
+use Rattle.std.specs.Prelude.{IfSome, nat_le, option_map, ◌&&◌}
+use Rattle.std.specs.Str.{bytes_eq}
 use Rattle.std.specs.List.{position_from}
-use Rattle.std.proofs.lemmas.List.Quantifiers.{position-Some}
+use Rattle.std.proofs.lemmas.Bool.{leb-true}
 use Rattle.cash_base.specs.declared.place.Span.{Span}
 use Rattle.cash_base.specs.declared.place.Slot.{Slot}
 use Rattle.cash_tree.specs.declared.Ty.{Ty}
 use Rattle.cash_tree.specs.declared.Contract.{Contract}
+use Rattle.cash_tree.specs.declared.Param.{Param}
 use Rattle.cash_tree.specs.declared.Function.{Function}
-use Rattle.cash_tree.specs.declared.Stmt.{Stmt}
 use Rattle.cash_tree.specs.declared.Expr.{Expr}
 use Rattle.cash_tree.specs.declared.ExprKind.{ExprKind}
-use Rattle.cashc.specs.Tokens.{Token}
-use Rattle.cashc.specs.Words.{is_text, numbers, number_of}
-use Rattle.cashc.specs.Form.{◌>>=◌, across, equality, require, function, first, token_at, name_at, param_at, behind_comma, further_params, with_front, place_of, params_from, params_step, some_params, params_at, operand_step, operand_of, operand_at, statement_at, function_at, contract_of, contract, IsOperandKind, IsComparison, IsEqualityFunction, AreInSlots, IsEquality}
+use Rattle.cash_tree.specs.declared.ExprKind.TheVariants as nodes
+use Rattle.cash_tree.specs.declared.ExprKind.TheOpen.{ExprKind-F}
+use Rattle.cash_parser.specs.Lexemes.{text_at}
+use Rattle.cash_parser.specs.Grammar.{Expression}
+use Rattle.cash_parser.specs.Files.{Tree, FunctionTree}
+use Rattle.cashc.specs.Form.{◌>>=◌, Open, opened, Parts, only, required, equated, are_ints, are_few_ints, is_bare, equality_in, place_of, all_differ, slot, operand_kind, operand_of, operand, params_from, value_of, statement_of, function_of, contract_of, formed, named, first_form, AreInSlots, IsOperandKind, IsComparison, IsEqualityFunction, IsEquality}
 
 -- a step that gives something: what its first part gave, and what the rest gives of that
 bind_some : {A B : Type 0} (r : Option A) (f : A → Option B) (y : B) → (r >>= f) ≡ Some y → (x : A) × (r ≡ Some x) × (f x ≡ Some y)
 bind_some None f y e = absurd cc
 bind_some (Some x) f y e = (x, refl, e)
 
+map_some : {A B : Type 0} (f : A → B) (r : Option A) (y : B) → option_map f r ≡ Some y → (x : A) × (r ≡ Some x) × (f x ≡ y)
+map_some f None y e = absurd cc
+map_some f (Some x) y e = let same : f x ≡ y = cc in (x, refl, same)
+
 some_is : {A : Type 0} {x y : A} → Some x ≡ Some y → x ≡ y
 some_is e = cc
 
-chosen : {A : Type 0} (b : Bool) (x y : A) → cond b (Some x) None ≡ Some y → x ≡ y
-chosen true x y e = some_is e
+-- what is chosen where a test is passed
+chosen : {A : Type 0} (test : Bool) (x y : A) → cond test (Some x) None ≡ Some y → (test ≡ true) × (x ≡ y)
+chosen true x y e = (refl, some_is e)
 chosen false x y e = absurd cc
 
 -- ---- operands
 
--- the place of a name is one of the names
-place_within : (text : List ℕ) (names : List Token) (i : ℕ) (r : Option ℕ) → position_from (λ (name : Token). is_text name.text text) i names ≡ r
-    → IfSome r (λ k. k < i + length names)
-place_within text names i None e = tt
-place_within text [] i (Some k) e = absurd cc
-place_within text (name ∷ names) i (Some k) e =
-    elim (is_text name.text text) as (λ (b : Bool). cond b (Some i) (position_from (λ (name : Token). is_text name.text text) (i + 1) names) ≡ Some k → k < i + length (name ∷ names))
-    [ true ↦ λ h. let same = some_is h in omega arith | false ↦ λ h. let less = place_within text names (i + 1) (Some k) h in omega arith ] e
-
-position_within : {X : Type 0} (p : X → Bool) (xs : List X) (d : X) (r : Option ℕ) → position p xs ≡ r → IfSome r (λ i. i < length xs)
-position_within p xs d None e = tt
-position_within p xs d (Some i) e = (position-Some p xs i d e).0
-
--- what an operand's kind is, from the place among the names and the number
-step_kind : (p q : Option ℕ) (count : ℕ) (kind : ExprKind Slot Ty) → IfSome p (λ i. i < count) → IfSome q (λ n. n < 17)
-    → operand_step p q ≡ Some kind → IsOperandKind count kind
-step_kind (Some k) q count kind place number e = inl (k, place, sym (some_is e))
-step_kind None (Some n) count kind place number e = inr (n, omega arith, sym (some_is e))
-step_kind None None count kind place number e = absurd cc
+-- a place is one of the parameters
+place_within : (source text : List ℕ) (params : List (Param Span)) (i : ℕ) (r : Option ℕ)
+    → position_from (λ (param : Param Span). bytes_eq (text_at source param.name) text) i params ≡ r → IfSome r (λ k. k < i + length params)
+place_within source text params i None e = tt
+place_within source text [] i (Some k) e = absurd cc
+place_within source text (param ∷ params) i (Some k) e =
+    elim (bytes_eq (text_at source param.name) text) as (λ (b : Bool). cond b (Some i) (position_from (λ (p : Param Span). bytes_eq (text_at source p.name) text) (i + 1) params) ≡ Some k → k < i + length (param ∷ params))
+    [ true ↦ λ h. let same = some_is h in omega arith | false ↦ λ h. let less = place_within source text params (i + 1) (Some k) h in omega arith ] e
 
 within_length : (r : Option ℕ) (n : ℕ) → IfSome r (λ k. k < 0 + n) → IfSome r (λ k. k < n)
 within_length None n h = tt
 within_length (Some k) n h = omega arith
 
-operand_is : (names : List Token) (ts : List Token) (x : Expr Slot Ty × List Token) → operand_at names ts ≡ Some x → IsOperandKind (length names) x.0.kind
-operand_is names ts x e =
-    let t = bind_some (first ts) _ x e in
-    let k = bind_some (operand_of names t.0.0.text) _ x t.2 in
-    let text = t.0.0.text in
-    let kind = step_kind (place_of text names) (number_of text) (length names) k.0
-    (within_length (place_of text names) (length names) (place_within text names 0 (place_of text names) refl))
-    (position_within (is_text text) numbers [] (number_of text) refl) k.1 in
-    subst (λ (y : Expr Slot Ty × List Token). IsOperandKind (length names) y.0.kind) (some_is k.2) kind
+place_kind : (r : Option ℕ) (count : ℕ) (kind : ExprKind Slot Ty) → IfSome r (λ k. k < count) → option_map (λ k. nodes.Name (slot k)) r ≡ Some kind → IsOperandKind count kind
+place_kind None count kind within e = absurd cc
+place_kind (Some k) count kind within e = inl (k, within, sym (some_is e))
 
--- ---- the statement
+small_kind : (digits unit count : ℕ) (kind : ExprKind Slot Ty) (test : Bool) → nat_le (digits * unit) 16 ≡ test → cond test (Some (nodes.Int digits unit)) None ≡ Some kind → IsOperandKind count kind
+small_kind digits unit count kind true is e = inr (digits, unit, leb-true (digits * unit) 16 is, sym (some_is e))
+small_kind digits unit count kind false is e = absurd cc
 
--- what the nodes that are made have
-comparison_of : (count : ℕ) (left right : Expr Slot Ty) (span : Span) (rest : List Token) (x : Stmt Slot Ty × List Token)
-    → IsOperandKind count left.kind → IsOperandKind count right.kind → Some (require (equality left right) span, rest) ≡ Some x → IsComparison count x.0
-comparison_of count left right span rest x l r e =
-    subst (λ (y : Stmt Slot Ty × List Token). IsComparison count y.0) (some_is e)
-    (record { value = equality left right; left = left; right = right; required = refl; compared = refl; left_operand = l; right_operand = r })
+kind_is : (source : List ℕ) (params : List (Param Span)) (k : Open) (kind : ExprKind Slot Ty) → operand_kind source params k ≡ Some kind → IsOperandKind (length params) kind
+unfolding operand_kind place_of
+kind_is source params (ExprKind-F.Name name) kind e =
+    let text = text_at source name in
+    let within = within_length (place_of source text params) (length params) (place_within source text params 0 (place_of source text params) refl) in
+    place_kind (place_of source text params) (length params) kind within e
+kind_is source params (ExprKind-F.Int digits unit) kind e = small_kind digits unit (length params) kind (nat_le (digits * unit) 16) refl e
+kind_is source params _ kind e = absurd cc
 
-statement_is : (names : List Token) (ts : List Token) (x : Stmt Slot Ty × List Token) → statement_at names ts ≡ Some x → IsComparison (length names) x.0
-statement_is names ts x e =
-    let start = bind_some (token_at (codes "require") ts) _ x e in
-    let bracket = bind_some (token_at (codes "(") start.0.1) _ x start.2 in
-    let left = bind_some (operand_at names bracket.0.1) _ x bracket.2 in
-    let sign = bind_some (token_at (codes "==") left.0.1) _ x left.2 in
-    let right = bind_some (operand_at names sign.0.1) _ x sign.2 in
-    let close = bind_some (token_at (codes ")") right.0.1) _ x right.2 in
-    let end = bind_some (token_at (codes ";") close.0.1) _ x close.2 in
-    let l = operand_is names bracket.0.1 left.0 left.1 in
-    let r = operand_is names sign.0.1 right.0 right.1 in
-    comparison_of (length names) left.0.0 right.0.0 (across start.0.0 end.0.0) end.0.1 x l r end.2
+operand_is : (source : List ℕ) (params : List (Param Span)) (e : Expression) (x : Expr Slot Ty) → operand source params e ≡ Some x → IsOperandKind (length params) x.kind
+unfolding operand
+operand_is source params e x h =
+    let k = map_some (operand_of e.span) (operand_kind source params (opened e.kind)) x h in
+    subst (λ (y : Expr Slot Ty). IsOperandKind (length params) y.kind) k.2 (kind_is source params (opened e.kind) k.0 k.1)
 
--- ---- the parameters
+-- ---- the function
 
--- there are at most so many names
-behind_is : (further : List Token → Option (List Token × List Token)) (room : ℕ) (ts : List Token) (o : Option (Span × List Token)) (x : List Token × List Token)
-    → ((us : List Token) (y : List Token × List Token) → further us ≡ Some y → length y.0 ≤ room)
-    → behind_comma further ts o ≡ Some x → length x.0 ≤ suc room
-behind_is further room ts None x few e = let n : 0 ≡ length x.0 = ap (λ (y : List Token × List Token). length y.0) (some_is e) in omega arith
-behind_is further room ts (Some comma) x few e =
-    let name = bind_some (param_at comma.1) _ x e in
-    let others = bind_some (further name.0.1) _ x name.2 in
-    let n : suc (length others.0.0) ≡ length x.0 = ap (λ (y : List Token × List Token). length y.0) (some_is others.2) in
-    let m = few name.0.1 others.0 others.1 in
-    omega arith
+few_from : (params : List (Param Span)) (test : Bool) → nat_le (length params) 16 ≡ test → test && are_ints params ≡ true → length params ≤ 16
+few_from params true is e = leb-true (length params) 16 is
+few_from params false is e = absurd cc
 
-further_is : (room : ℕ) (ts : List Token) (x : List Token × List Token) → further_params room ts ≡ Some x → length x.0 ≤ room
-further_is zero ts x e = let n : 0 ≡ length x.0 = ap (λ (y : List Token × List Token). length y.0) (some_is e) in omega arith
-further_is (suc room) ts x e = behind_is (further_params room) room ts (token_at (codes ",") ts) x (λ us y h. further_is room us y h) e
+few_ints : (params : List (Param Span)) (bare : Bool) → bare && are_few_ints params ≡ true → length params ≤ 16
+unfolding are_few_ints
+few_ints params true e = few_from params (nat_le (length params) 16) refl e
+few_ints params false e = absurd cc
 
-some_params_is : (ts : List Token) (x : List Token × List Token) → some_params ts ≡ Some x → length x.0 ≤ 16
-some_params_is ts x e =
-    let name = bind_some (param_at ts) _ x e in
-    let names = bind_some (with_front (name.0.0 ∷ []) (further_params 15 name.0.1)) _ x name.2 in
-    let close = bind_some (token_at (codes ")") names.0.1) _ x names.2 in
-    let others = bind_some (further_params 15 name.0.1) _ names.0 names.1 in
-    let few = further_is 15 name.0.1 others.0 others.1 in
-    let m : suc (length others.0.0) ≡ length names.0.0 = ap (λ (y : List Token × List Token). length y.0) (some_is others.2) in
-    let n : length names.0.0 ≡ length x.0 = ap (λ (y : List Token × List Token). length y.0) (chosen _ _ x close.2) in
-    omega arith
+equality_is : (tree : Tree) (e : Parts) → equality_in tree ≡ Some e → length e.function.params ≤ 16
+unfolding equality_in
+equality_is tree e is =
+    let f = bind_some (only tree.functions) _ e is in
+    let s = bind_some (only f.0.body) _ e f.2 in
+    let value = bind_some (required s.0.kind) _ e s.2 in
+    let sides = bind_some (equated (opened value.0.kind)) _ e value.2 in
+    let both = chosen (is_bare tree && are_few_ints f.0.params) _ e sides.2 in
+    subst (λ (p : Parts). length p.function.params ≤ 16) both.1 (few_ints f.0.params (is_bare tree) both.0)
 
-params_are : (ts : List Token) (o : Option (Span × List Token)) (x : List Token × List Token) → params_step ts o ≡ Some x → length x.0 ≤ 16
-params_are ts None x e = some_params_is ts x e
-params_are ts (Some close) x e = let n : 0 ≡ length x.0 = ap (λ (y : List Token × List Token). length y.0) (some_is e) in omega arith
-
-length-params_from : (k : ℕ) (names : List Token) → length (params_from k names) ≡ length names
+length-params_from : (k : ℕ) (params : List (Param Span)) → length (params_from k params) ≡ length params
 length-params_from k [] = refl
-length-params_from k (name ∷ names) = ap suc (length-params_from (k + 1) names)
+length-params_from k (param ∷ params) = ap suc (length-params_from (k + 1) params)
 
-in_slots : (k : ℕ) (names : List Token) → AreInSlots k (params_from k names)
+in_slots : (k : ℕ) (params : List (Param Span)) → AreInSlots k (params_from k params)
 in_slots k [] = tt
-in_slots k (name ∷ names) = (refl, in_slots (k + 1) names)
+in_slots k (param ∷ params) = (refl, in_slots (k + 1) params)
 
--- ---- the function and the contract
-
-function_of : (name span : Span) (names : List Token) (statement : Stmt Slot Ty) (rest : List Token) (x : Function Slot Ty × List Token)
-    → length names ≤ 16 → IsComparison (length names) statement → Some (function name span names statement, rest) ≡ Some x → IsEqualityFunction x.0
-function_of name span names statement rest x few compared e =
-    let count = length-params_from 0 names in
-    subst (λ (y : Function Slot Ty × List Token). IsEqualityFunction y.0) (some_is e)
-    (record {
-      statement = statement;
-      few = omega arith;
-      in_slots = in_slots 0 names;
+function_is : (x : Parts × Expr Slot Ty × Expr Slot Ty) → length x.0.function.params ≤ 16
+    → IsOperandKind (length x.0.function.params) x.1.kind → IsOperandKind (length x.0.function.params) x.2.kind
+    → IsEqualityFunction (formed x)
+unfolding function_of statement_of value_of
+function_is x few l r =
+    let params = x.0.function.params in
+    let count = length-params_from 0 params in
+    let value = value_of x.0.value.span x.1 x.2 in
+    let P : ExprKind Slot Ty → ℕ → Type 0 = λ kind n. IsOperandKind n kind in
+    record {
+      statement = statement_of x.0.statement.span value;
+      few = omega (arith, count);
+      in_slots = in_slots 0 params;
       one_statement = refl;
-      comparison = subst (λ (n : ℕ). IsComparison n statement) (sym count) compared;
-    })
+      comparison = record {
+        value = value;
+        left = x.1;
+        right = x.2;
+        required = refl;
+        compared = refl;
+        left_operand = subst (P x.1.kind) (sym count) l;
+        right_operand = subst (P x.2.kind) (sym count) r;
+      };
+    }
 
-function_is : (ts : List Token) (x : Function Slot Ty × List Token) → function_at ts ≡ Some x → IsEqualityFunction x.0
-function_is ts x e =
-    let start = bind_some (token_at (codes "function") ts) _ x e in
-    let name = bind_some (name_at start.0.1) _ x start.2 in
-    let bracket = bind_some (token_at (codes "(") name.0.1) _ x name.2 in
-    let params = bind_some (params_at bracket.0.1) _ x bracket.2 in
-    let brace = bind_some (token_at (codes "{") params.0.1) _ x params.2 in
-    let statement = bind_some (statement_at params.0.0 brace.0.1) _ x brace.2 in
-    let end = bind_some (token_at (codes "}") statement.0.1) _ x statement.2 in
-    let few = params_are bracket.0.1 (token_at (codes ")") bracket.0.1) params.0 params.1 in
-    let compared = statement_is params.0.0 brace.0.1 statement.0 statement.1 in
-    function_of name.0.0.span (across start.0.0 end.0.0) params.0.0 statement.0.0 end.0.1 x few compared end.2
+-- ---- the contract
 
-contract_with : (name span : Span) (f : Function Slot Ty) (test : Bool) (c : Contract Slot Ty) → IsEqualityFunction f
-    → cond test (Some (contract name span f)) None ≡ Some c → IsEquality c
-contract_with name span f test c body e =
-    subst IsEquality (chosen test (contract name span f) c e) (record { f = f; no_params = refl; one_function = refl; body = body })
+contract_is : (tree : Tree) (function : Function Slot Ty) → IsEqualityFunction function → IsEquality (contract_of tree function)
+unfolding contract_of
+contract_is tree function body = record { f = function; no_params = refl; one_function = refl; body = body }
 
-pub contract_is : (ts : List Token) (c : Contract Slot Ty) → contract_of ts ≡ Some c → IsEquality c
-contract_is ts c e =
-    let start = bind_some (token_at (codes "contract") ts) _ c e in
-    let name = bind_some (name_at start.0.1) _ c start.2 in
-    let bracket = bind_some (token_at (codes "(") name.0.1) _ c name.2 in
-    let close = bind_some (token_at (codes ")") bracket.0.1) _ c bracket.2 in
-    let brace = bind_some (token_at (codes "{") close.0.1) _ c close.2 in
-    let f = bind_some (function_at brace.0.1) _ c brace.2 in
-    let end = bind_some (token_at (codes "}") f.0.1) _ c f.2 in
-    let body = function_is brace.0.1 f.0 f.1 in
-    contract_with name.0.0.span (across start.0.0 end.0.0) f.0.0 (length end.0.1 == 0) c body end.2
+pub form_is : (source : List ℕ) (tree : Tree) (contract : Contract Slot Ty) → first_form source tree ≡ Some contract → IsEquality contract
+unfolding named first_form
+form_is source tree contract is =
+    let x = bind_some (named source tree) _ contract is in
+    let e = bind_some (equality_in tree) _ x.0 x.1 in
+    let left = bind_some (operand source e.0.function.params e.0.left) _ x.0 e.2 in
+    let right = bind_some (operand source e.0.function.params e.0.right) _ x.0 left.2 in
+    let both = chosen (all_differ source e.0.function.params) (e.0, left.0, right.0) x.0 right.2 in
+    let l = operand_is source e.0.function.params e.0.left left.0 left.1 in
+    let r = operand_is source e.0.function.params e.0.right right.0 right.1 in
+    let body = function_is (e.0, left.0, right.0) (equality_is tree e.0 e.1) l r in
+    let P : Parts × Expr Slot Ty × Expr Slot Ty → Type 0 = λ y. IsEqualityFunction (formed y) in
+    subst IsEquality (some_is x.2) (contract_is tree (formed x.0) (subst P both.1 body))

@@ -1,8 +1,8 @@
 pub mod Accepted
+pub mod Columns
 pub mod Decided
 pub mod Emits
-pub mod FormAnswer
 pub mod FormShape
-pub mod SourceTokens
-pub mod FurtherParams
+pub mod Stages
 pub mod Told
+pub mod Ways

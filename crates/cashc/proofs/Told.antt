@@ -5,7 +5,7 @@ use Rattle.std.specs.Prelude.{IfSome}
 use Rattle.std.specs.Global.{Global}
 use Rattle.std.specs.declared.string.String.{String}
 use Rattle.cash_base.specs.Outside.{Files, file_named, Writes}
-use Rattle.cashc.specs.Form.{max_source_len}
+use Rattle.cashc.specs.Compile.{max_source_len}
 use Rattle.cashc.specs.TopCall.{named_source, IsSource, Tried}
 
 -- a write was tried

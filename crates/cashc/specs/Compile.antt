@@ -1,29 +1,77 @@
--- What compiling a source answers.
-use Rattle.std.specs.Prelude.{◌≡◌, ℕ, ◌<◌, ◌≤◌, List, length, IsTrue}
+-- Which sources are accepted, and which are refused: what each stage wants of a source, and the first stage that gives nothing.
+use Rattle.std.specs.Prelude.{◌≡◌, ◌≢◌, ℕ, ◌<◌, ◌≤◌, List, length, Some, None, Ok, Err, IsTrue}
+use Rattle.std.specs.Str.{IsUtf8}
+use Rattle.std.specs.Str.Lossy.{utf8_valid_len}
 use Rattle.cash_base.specs.declared.place.Slot.{Slot}
-use Rattle.cash_base.specs.declared.place.Span.{Span}
 use Rattle.cash_tree.specs.declared.Ty.{Ty}
 use Rattle.cash_tree.specs.declared.Contract.{Contract}
+use Rattle.cash_tree.specs.declared.Token.{Token}
+use Rattle.cash_lexer.specs.declared.fault.LexFault.TheVariants as lexer
+use Rattle.cash_lexer.specs.Tokens.{lexed}
+use Rattle.cash_parser.specs.declared.fault.ParseFault.{ParseFault}
+use Rattle.cash_parser.specs.declared.fault.ParseFault.TheVariants as parser
+use Rattle.cash_parser.specs.Lexemes.{Lexeme, lexemes}
+use Rattle.cash_parser.specs.DepthRules.{deepest_token}
+use Rattle.cash_parser.specs.Files.{Tree, SpellsFile}
+use Rattle.cash_parser.specs.Answer.{IsNone}
 use Rattle.script_codec.specs.declared.instr.Instr.{Instr}
 use Rattle.script_codec.specs.Spelling.{are_instructions}
-use Rattle.cashc.specs.declared.compile.Refusal.{Refusal}
-use Rattle.cashc.specs.declared.compile.Refusal.TheVariants.{SourceTooLong, NotBuilt, Memory}
-use Rattle.cashc.specs.Form.{max_source_len, IsOfForm}
+use Rattle.cashc.specs.declared.refusal.Refusal.{Refusal}
+use Rattle.cashc.specs.declared.refusal.Refusal.TheVariants.{SourceTooLong, NotUtf8, Lex, Parse, NotBuilt, Memory}
+use Rattle.cashc.specs.Form.{first_form}
 use Rattle.cashc.specs.Decides.{DecidesByRun}
+
+-- ---- the stages
+
+-- a source has at most so many bytes
+abbrev pub max_source_len : ℕ
+max_source_len = 65536
+
+-- the source isn't too long, and is UTF-8
+pub record IsText (source : List ℕ) : Type 0 where
+  pub short : length source ≤ max_source_len
+  pub utf8 : IsUtf8 source
+
+-- ... and these are its tokens
+pub record HasTokens (source : List ℕ) (tokens : List Token) : Type 0 where
+  pub text : IsText source
+  pub found : lexed source ≡ Ok tokens
+
+-- ... of which none is too deep, and they spell this tree
+pub record HasTree (source : List ℕ) (tree : Tree) : Type 0 where
+  pub tokens : List Token
+  pub cut : HasTokens source tokens
+  pub shallow : deepest_token (lexemes source tokens) ≡ None
+  pub spelled : SpellsFile (lexemes source tokens) tree
+
+-- ... which is of the form that is built so far, and stands for this contract
+pub record IsAccepted (source : List ℕ) (contract : Contract Slot Ty) : Type 0 where
+  pub tree : Tree
+  pub parsed : HasTree source tree
+  pub formed : first_form source tree ≡ Some contract
 
 -- the source stands for a contract that the code decides, and each instruction of the code has its spelling
 abbrev pub IsCompiled : List ℕ → List Instr → Type 0
-IsCompiled source code = (contract : Contract Slot Ty) × IsOfForm source contract × DecidesByRun contract code × IsTrue (are_instructions code)
+IsCompiled source code = (contract : Contract Slot Ty) × IsAccepted source contract × DecidesByRun contract code × IsTrue (are_instructions code)
 
--- the source stands for no contract
-abbrev pub IsOfNoForm : List ℕ → Type 0
-IsOfNoForm source = (contract : Contract Slot Ty) → IsOfForm source contract → ⊥
+-- ---- the refusals
 
-abbrev pub whole_span : List ℕ → Span
-whole_span source = record { from = 0; to = length source }
+-- the fault of these tokens, of which there are so many: the first that is too deep, or else that they spell no tree
+abbrev pub IsFaultOf : List Lexeme → ℕ → ParseFault → Type 0
+IsFaultOf ts count (parser.TooDeep rule span) = deepest_token ts ≡ Some (rule, span)
+IsFaultOf ts count (parser.Syntax token) = (deepest_token ts ≡ None) × IsNone ts × (token ≤ count)
+IsFaultOf ts count parser.Memory = ⊥
 
--- the cause of a refusal stands in the source
+-- The first stage that gives nothing gives this refusal. Memory stands in no source.
 abbrev pub IsRefused : List ℕ → Refusal → Type 0
 IsRefused source (SourceTooLong bytes) = (max_source_len < length source) × (bytes ≡ length source)
-IsRefused source (NotBuilt span) = (length source ≤ max_source_len) × IsOfNoForm source × (span ≡ whole_span source)
-IsRefused source Memory = Unit {0}
+IsRefused source (NotUtf8 at) = (length source ≤ max_source_len) × (IsUtf8 source → ⊥) × (at ≡ utf8_valid_len source)
+IsRefused source (Lex fault) = IsText source × (lexed source ≡ Err fault) × (fault ≢ lexer.Memory)
+IsRefused source (Parse fault) = (tokens : List Token) × HasTokens source tokens × IsFaultOf (lexemes source tokens) (length tokens) fault
+IsRefused source (NotBuilt span) = (tree : Tree) × HasTree source tree × (first_form source tree ≡ None) × (span ≡ tree.span)
+IsRefused source Memory = ⊥
+
+-- the same refusal, but for the token that a Syntax names
+abbrev pub AreSame : Refusal → Refusal → Type 0
+AreSame (Parse (parser.Syntax a)) (Parse (parser.Syntax b)) = Unit {0}
+AreSame a b = a ≡ b

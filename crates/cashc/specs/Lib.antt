@@ -2,8 +2,7 @@ pub mod Compile
 pub mod Decides
 pub mod Emission
 pub mod Form
-pub mod Given
+pub mod RefusalText
 pub mod Seen
-pub mod Tokens
+pub mod SpanMap
 pub mod TopCall
-pub mod Words

@@ -1,11 +1,7 @@
--- The tokens of the code, as contracts see them.
-use Rattle.std.specs.Prelude.{List, map}
-use Rattle.cashc.specs.Tokens.{Token}
-use Rattle.cashc.specs.declared.reading.tokens.Token.{Token as Lent}
+-- The parts of a tree in the code, as contracts see them.
+use Rattle.cashc.specs.Form.{Parts}
+use Rattle.cashc.specs.declared.form.Equality.{Equality}
 
--- the bytes of a token, without where they lie in memory
-abbrev pub seen_token : Lent → Token
-seen_token token = record { kind = token.kind; text = token.text.now; span = token.span }
-
-abbrev pub seen : List Lent → List Token
-seen tokens = map seen_token tokens
+-- without where they lie in memory
+abbrev pub seen : Equality → Parts
+seen e = record { function = e.function.now; statement = e.statement.now; value = e.value.now; left = e.left.now; right = e.right.now }

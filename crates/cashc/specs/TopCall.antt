@@ -7,8 +7,9 @@ use Rattle.std.specs.declared.string.String.{String}
 use Rattle.cash_base.specs.Outside.{Files, file_named, Rose, Grew, GrewByFront}
 use Rattle.script_codec.specs.declared.instr.Instr.{Instr}
 use Rattle.script_codec.specs.Spelling.{spellings}
-use Rattle.cashc.specs.Form.{max_source_len}
-use Rattle.cashc.specs.Compile.{IsCompiled, IsOfNoForm}
+use Rattle.cashc.specs.declared.refusal.Refusal.{Refusal}
+use Rattle.cashc.specs.Compile.{max_source_len, IsCompiled, IsRefused}
+use Rattle.cashc.specs.RefusalText.{source_too_long, refusal_text}
 
 -- ---- the words
 
@@ -26,17 +27,8 @@ named_source _ = None
 abbrev pub code_line : List Instr → List ℕ
 code_line code = codes "code " ++ encode_lower (spellings code) ++ codes "\n"
 
-abbrev pub source_too_long : List ℕ
-source_too_long = codes "refused SourceTooLong\n"
-
-abbrev pub not_built : List ℕ
-not_built = codes "refused 1:1 NotBuilt\n"
-
 abbrev pub read_failed : List ℕ
 read_failed = codes "read failed\n"
-
-abbrev pub out_of_memory : List ℕ
-out_of_memory = codes "out of memory\n"
 
 -- ---- the source
 
@@ -52,11 +44,12 @@ IsLongSource files words = (name : List ℕ) × (named_source words ≡ Some nam
 abbrev pub IsLine : Option Files → List (String Global) → List ℕ → Type 0
 IsLine files words line = (source : List ℕ) × (code : List Instr) × IsSource files words source × IsCompiled source code × (line ≡ code_line code)
 
--- the text of status 1: the source is too long, or it isn't and stands for no contract
+-- the text of status 1: the source is too long, or it isn't and is refused
 abbrev pub IsRefusal : Option Files → List (String Global) → List ℕ → Type 0
 IsRefusal files words text =
     (IsLongSource files words × (text ≡ source_too_long))
-    ⊎ ((source : List ℕ) × IsSource files words source × (length source ≤ max_source_len) × IsOfNoForm source × (text ≡ not_built))
+    ⊎ ((source : List ℕ) × (refusal : Refusal) × IsSource files words source × (length source ≤ max_source_len) × IsRefused source refusal
+    × (text ≡ refusal_text source refusal))
 
 -- the text of status 2: the words are no command
 abbrev pub IsMisuse : List (String Global) → List ℕ → Type 0

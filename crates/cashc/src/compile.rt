@@ -1,60 +1,54 @@
 //! From a source to the code of its contract.
 
-ghost use Rattle.std.specs.Prelude.{◌≡◌, ◌^◌, ◌<◌, length, IfOk, IfErr};
-ghost use Rattle.cashc.specs.declared.compile.Refusal.TheVariants.{Memory};
-ghost use Rattle.cashc.specs.Compile.{IsCompiled, IsRefused};
+ghost use Rattle.std.specs.Prelude.{◌≡◌, ◌≢◌, ◌^◌, ◌<◌, ℕ, List, length, IfOk, IfErr};
+ghost use Rattle.cash_base.specs.declared.place.Slot.{Slot};
+ghost use Rattle.cash_tree.specs.declared.Ty.{Ty};
+ghost use Rattle.cash_tree.specs.declared.Contract.{Contract as CashContract};
+ghost use Rattle.cashc.specs.declared.refusal.Refusal.{Refusal as Cause};
+ghost use Rattle.cashc.specs.declared.refusal.Refusal.TheVariants.{Memory};
+ghost use Rattle.cashc.specs.Compile.{IsAccepted, IsCompiled, IsRefused, AreSame};
 
 use crate::emission::emit;
-use crate::reading::{MAX_SOURCE_LEN, read_contract};
-use cash_base::{Memory, Span};
+use crate::form::first_form;
+use crate::reading::tree_of;
+use crate::refusal::Refusal;
+use cash_parser::one_tree;
 use script_codec::Instr;
-use std::alloc::{AllocError, Global};
-
-/// Why a source isn't compiled.
-#[derive(Clone, Copy, Debug, PartialEq, Eq)]
-pub enum Refusal {
-    /// It is longer than 65,536 bytes: it has so many.
-    SourceTooLong { bytes: u32 },
-    /// It isn't of the form that is built so far; the span is the whole source.
-    NotBuilt { span: Span },
-    /// Memory ran out.
-    Memory,
-}
-
-impl From<Memory> for Refusal {
-    ghost from_gives = { λ _ refusal. refusal ≡ Memory };
-
-    fn from(_e: Memory) -> Refusal {
-        Refusal::Memory
-    }
-}
-
-impl From<AllocError> for Refusal {
-    ghost from_gives = { λ _ refusal. refusal ≡ Memory };
-
-    fn from(_e: AllocError) -> Refusal {
-        Refusal::Memory
-    }
-}
+use std::alloc::Global;
 
 /// The code of the contract that a source stands for.
 ///
-/// Run by the machine on any argument elements, it decides the contract as a run of the source does. `SourceTooLong`
-/// comes exactly where the source has more than 65,536 bytes, and `NotBuilt` exactly where it hasn't and isn't of the
-/// form; memory may be wanting at any time.
+/// Run by the machine on any argument elements, it decides the contract as a run of the source does. Each refusal comes
+/// exactly where its cause stands in the source, in the order of [`Refusal`]: the length, UTF-8, the tokens, how deep
+/// they nest, the tree, and the form that is built so far. Memory may be wanting at any time.
 #[tactic(auto, using(crate::proofs::Accepted::equality_emittable))]
 pub fn compile(alloc: Global, source: &[u8]) -> Result<Vec<Instr>, Refusal>
     requires { length source.now < 2 ^ 32 }
     ensures compiled { IfOk result (λ code. IsCompiled source.now code.items) }
-    ensures refused { IfErr result (λ refusal. IsRefused source.now refusal) }
+    ensures refused { IfErr result (λ refusal. refusal ≢ Memory → IsRefused source.now refusal) }
 {
-    let bytes = source.len() as u32;
-    if source.len() > MAX_SOURCE_LEN {
-        return Err(Refusal::SourceTooLong { bytes });
-    }
-    let Some(contract) = read_contract(alloc, source)? else {
-        let span = Span { from: 0, to: bytes };
-        return Err(Refusal::NotBuilt { span });
+    let tree = tree_of(alloc, source)?;
+    let Some(contract) = first_form(alloc, source, &tree)? else {
+        return Err(Refusal::NotBuilt { span: tree.span });
     };
     Ok(emit(alloc, &contract)?)
+}
+
+/// A source stands for at most one contract.
+pub fn one_contract()
+    ensures { (source : List ℕ) (a b : CashContract Slot Ty) →
+        IsAccepted source a → IsAccepted source b → a ≡ b }
+{
+    one_tree();
+}
+
+/// A source is accepted or refused, and not both; and it is refused in one way only, but for the token that a Syntax
+/// names.
+pub fn one_way()
+    ensures never_both { (source : List ℕ) (contract : CashContract Slot Ty) (refusal : Cause) →
+        IsAccepted source contract → IsRefused source refusal → ⊥ }
+    ensures one_refusal { (source : List ℕ) (a b : Cause) →
+        IsRefused source a → IsRefused source b → AreSame a b }
+{
+    one_tree();
 }

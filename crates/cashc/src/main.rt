@@ -3,9 +3,13 @@
 
 pub mod compile;
 pub mod emission;
+mod form;
 pub mod reading;
+pub mod refusal;
+mod refusal_text;
 #[cfg(test)]
 mod run_tests;
+pub mod span_map;
 #[cfg(test)]
 mod tests;
 pub mod top_call;

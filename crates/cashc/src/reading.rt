@@ -1,62 +1,83 @@
-//! Reads the first form of source into a typed tree: a contract with one function, which requires that two operands
-//! are equal.
+//! From a source to its tree, stage by stage.
 
-ghost use Rattle.std.specs.Prelude.{◌≡◌, List, ℕ, IfOk, IfSome, IfNone};
-ghost use Rattle.cash_base.specs.declared.place.Slot.{Slot};
-ghost use Rattle.cash_tree.specs.declared.Ty.{Ty};
-ghost use Rattle.cash_tree.specs.declared.Contract.{Contract};
-ghost use Rattle.cashc.specs.Form.{IsOfForm, IsEquality};
+ghost use Rattle.std.specs.Prelude.{◌≡◌, ◌≢◌, ◌≤◌, ◌<◌, ◌^◌, length, IfOk, IfErr, IfSome};
+ghost use Rattle.cashc.specs.declared.refusal.Refusal.TheVariants.{Memory};
+ghost use Rattle.cashc.specs.Form.{IsEquality};
+ghost use Rattle.cashc.specs.Compile.{IsText, HasTokens, HasTree, IsRefused};
 
-mod parser;
-mod stop;
-mod tokens;
-mod words;
-
-use cash_base::Memory;
+#[cfg(test)]
+use crate::form::first_form;
+use crate::refusal::Refusal;
+use cash_lexer::LexFault;
+use cash_parser::{ParseFault, parse};
+#[cfg(test)]
 use cash_tree::TypedContract;
+use cash_tree::{Token, Tree};
 use std::alloc::Global;
-use stop::Stop;
 
 /// The most bytes of a source.
 pub const MAX_SOURCE_LEN: usize = 65_536;
 
-/// The contract that a source stands for, or `None` where it isn't of the form.
-///
-/// A source of the form has at most [`MAX_SOURCE_LEN`] bytes, is UTF-8, and its tokens are
-/// `contract NAME ( ) { function NAME ( PARAMS ) { require ( OPERAND == OPERAND ) ; } }`. PARAMS is up to 16 times
-/// `int NAME`, with commas between, and their names differ. An OPERAND is the name of a parameter, or a number from 0
-/// to 16 in decimal digits without a leading zero. A NAME is a word that isn't reserved. Tokens,
-/// words and what is reserved are those of the CashScript 0.7 grammar.
-///
-/// The parameters have the slots from 0 in their order and the type Int, as the operands have; the comparison has the
-/// type Bool. Spans count bytes from 0.
+/// The text of a source.
+fn text_of(source: &[u8]) -> Result<&str, Refusal>
+    requires { length source.now < 2 ^ 32 }
+    ensures text { IfOk result (λ text. (text.now ≡ source.now) × IsText source.now) }
+    ensures refused { IfErr result (λ refusal. IsRefused source.now refusal) }
+{
+    if source.len() > MAX_SOURCE_LEN {
+        let bytes = source.len() as u32;
+        return Err(Refusal::SourceTooLong { bytes });
+    }
+    match str::from_utf8(source) {
+        Ok(text) => Ok(text),
+        Err(e) => {
+            let at = e.valid_up_to() as u32;
+            Err(Refusal::NotUtf8 { at })
+        }
+    }
+}
+
+/// The tokens of a text.
+fn tokens_of(alloc: Global, text: &str) -> Result<Vec<Token>, Refusal>
+    requires { IsText text.now }
+    ensures cut { IfOk result (λ tokens. HasTokens text.now tokens.items) }
+    ensures refused { IfErr result (λ refusal. refusal ≢ Memory → IsRefused text.now refusal) }
+{
+    match cash_lexer::tokens(alloc, text) {
+        Ok(tokens) => Ok(tokens),
+        Err(LexFault::Memory) => Err(Refusal::Memory),
+        Err(fault) => Err(Refusal::Lex(fault)),
+    }
+}
+
+/// The tree of a source.
 ///
 /// # Errors
 ///
-/// `Memory`, where memory ran out.
-pub fn read_contract(alloc: Global, source: &[u8]) -> Result<Option<TypedContract>, Memory>
-    ensures found { IfOk result (λ o. IfSome o (λ contract. IsOfForm source.now contract)) }
-    ensures built { IfOk result (λ o. IfSome o (λ contract. IsEquality contract)) }
-    ensures none { IfOk result (λ o. IfNone o ((contract : Contract Slot Ty) → IsOfForm source.now contract → ⊥)) }
+/// The refusal of the first stage that gives nothing: `SourceTooLong`, `NotUtf8`, `Lex` and `Parse`, each exactly where
+/// its cause stands in the source, or `Memory`, where memory ran out.
+pub fn tree_of(alloc: Global, source: &[u8]) -> Result<Tree, Refusal>
+    requires { length source.now < 2 ^ 32 }
+    ensures parsed { IfOk result (λ tree. HasTree source.now tree) }
+    ensures refused { IfErr result (λ refusal. refusal ≢ Memory → IsRefused source.now refusal) }
+{
+    let text = text_of(source)?;
+    let tokens = tokens_of(alloc, text)?;
+    match parse(alloc, text, &tokens) {
+        Ok(tree) => Ok(tree),
+        Err(ParseFault::Memory) => Err(Refusal::Memory),
+        Err(fault) => Err(Refusal::Parse(fault)),
+    }
+}
+
+/// The contract of a source that is accepted, or `None`.
+#[cfg(test)]
+pub fn read_contract(alloc: Global, source: &[u8]) -> Result<Option<TypedContract>, Refusal>
+    ensures built { IfOk result (λ contract. IfSome contract IsEquality) }
 {
     if source.len() > MAX_SOURCE_LEN {
         return Ok(None);
     }
-    let Some(tokens) = tokens::tokens(alloc, source)? else {
-        return Ok(None);
-    };
-    match parser::contract(alloc, &tokens) {
-        Ok(contract) => Ok(Some(contract)),
-        Err(Stop::NotOfForm) => Ok(None),
-        Err(Stop::Memory) => Err(Memory),
-    }
+    let tree = tree_of(alloc, source)?;
+    Ok(first_form(alloc, source, &tree)?)
 }
-
-/// A source is of the form as at most one contract.
-pub fn one_contract()
-    ensures { (source : List ℕ) (a b : Contract Slot Ty) →
-        IsOfForm source a → IsOfForm source b → a ≡ b }
-{}
-
-#[cfg(test)]
-mod tests;

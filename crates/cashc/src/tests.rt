@@ -1,7 +1,11 @@
 // The top call on its rows.
 
+use crate::compile::compile;
+use crate::refusal::Refusal;
+use crate::span_map::line_col;
 use crate::top_call::cashc;
-use cash_base::{MemorySink, MemoryStore, Sink, Store, SureSink, SureStore};
+use cash_base::{MemorySink, MemoryStore, Sink, Span, Store, SureSink, SureStore};
+use cash_parser::{DepthRule, ParseFault};
 use std::alloc::{AllocError, Global};
 use std::test::Fail;
 
@@ -76,13 +80,7 @@ fn each_other_status(rt: HostRuntime) -> Result<(), Fail> {
             1,
             "refused 1:1 NotBuilt\n",
         ),
-        (
-            &["compile", "s"],
-            b"",
-            [9, 9, 9],
-            1,
-            "refused 1:1 NotBuilt\n",
-        ),
+        (&["compile", "s"], b"", [9, 9, 9], 1, "refused 1:1 Syntax\n"),
         (
             &["compile", "s"],
             long.as_slice(),
@@ -128,6 +126,140 @@ fn each_other_status(rt: HostRuntime) -> Result<(), Fail> {
         assert_eq!(rt; status, wanted, "{text}");
         assert!(rt; out.bytes().is_empty(), "{text}");
         assert_eq!(rt; err.bytes(), text.as_bytes());
+    }
+    Ok(())
+}
+
+// Each source on a line, between what is printed and the source a bar; `~` stands for a line feed.
+const SOURCES: &str = "\
+code|contract S(){function f(int x,int y,){require((x)==y /*c*/);}}
+code|contract S() { function f() { require(0 == 16); } }
+code|contract f() { function f(int f) { require(f == 1e1); } }
+code|contract S() { function f(int sats) { require(16 sats == sats); } }
+code|contract S() { function f(int a, int b, int c, int d, int e, int f, int g, int h, int i, int j, int k, int l, int m, int n, int o, int p) { require(p == a); } }
+refused 1:1 NotBuilt|contract S() { function f(int a, int b, int c, int d, int e, int f, int g, int h, int i, int j, int k, int l, int m, int n, int o, int p, int q) { require(p == a); } }
+refused 1:1 NotBuilt|contract S() { function f(int x, int y, int x) { require(y == y); } }
+refused 1:1 NotBuilt|contract S() { function f(int x, bool y) { require(x == 1); } }
+refused 1:1 NotBuilt|contract S(int x) { function f() { require(1 == 1); } }
+refused 2:1 NotBuilt|pragma cashscript ^0.7.0; // ~contract S() { function f() { require(1 == 1); } }
+refused 2:3 NotBuilt| // é~\t contract S() {}
+refused 1:1 NotBuilt|contract S() { function f() { require(1 == 1); } function g() { require(1 == 1); } }
+refused 1:1 NotBuilt|contract S() { function f() {} }
+refused 1:1 NotBuilt|contract S() { function f() { require(1 == 1); require(1 == 1); } }
+refused 1:1 NotBuilt|contract S() { function f(int x) { require(tx.time >= x); } }
+refused 1:1 NotBuilt|contract S() { function f(int x) { require(x); } }
+refused 1:1 NotBuilt|contract S() { function f(int x) { require(x <= 1); } }
+refused 1:1 NotBuilt|contract S() { function f(int x) { require(x == 17); } }
+refused 1:1 NotBuilt|contract S() { function f(int x) { require(x == 2 finney); } }
+refused 1:1 NotBuilt|contract S() { function f(int x) { require(x == -1); } }
+refused 1:1 NotBuilt|contract S() { function f(int x) { require(x == 0x01); } }
+refused 1:1 NotBuilt|contract S() { function f(int x) { require(x == y); } }
+refused 1:1 NotBuilt|contract S() { function f(int x) { require(x == f); } }
+refused 1:16 OpenComment|contract A() { /* x
+refused 1:39 OddHex|contract S() { function f() { require(0x123 == 1); } }
+refused 2:1 BadCharacter|// é~é
+refused 2:2 OpenString|~ 'a~b'
+refused 1:1 NumberTooWide|340282366920938463463374607431768211456
+refused 1:4 BadDate|a, date(1)
+refused 1:41 Syntax|contract S() { function f() { require(1 = 1); } }
+refused 3:1 Syntax|contract S() {~}~}
+refused 2:1 Syntax|contract S() {~
+";
+
+// What the call prints on the sources, without the line feed; of code the first word.
+fn printed(alloc: Global, source: &[u8]) -> Result<String, Fail> {
+    let call = Call {
+        words: &["compile", "s"],
+        source,
+        failing: [9, 9, 9],
+    };
+    let (status, out, err) = answer(alloc, &call)?;
+    let bytes = if status == 0 {
+        out.bytes()
+    } else {
+        err.bytes()
+    };
+    let text = str::from_utf8(bytes)?;
+    let word = if status == 0 {
+        text.split(' ').next()
+    } else {
+        text.strip_suffix("\n")
+    };
+    Ok(String::from_str(alloc, word.ok_or("a line")?)?)
+}
+
+fn with_feeds(alloc: Global, text: &str) -> Result<Vec<u8>, AllocError> {
+    let mut bytes = Vec::new(alloc);
+    for byte in text.as_bytes() {
+        bytes.push(if *byte == b'~' { b'\n' } else { *byte })?;
+    }
+    Ok(bytes)
+}
+
+#[test]
+fn sources_and_what_is_printed(rt: HostRuntime) -> Result<(), Fail> {
+    let alloc = rt.alloc();
+    for line in SOURCES.lines() {
+        let (wanted, source) = line.split_once('|').ok_or("a bar")?;
+        let text = printed(alloc, with_feeds(alloc, source)?.as_slice())?;
+        assert_eq!(rt; text.as_str(), wanted, "{line}");
+    }
+    Ok(())
+}
+
+// So many times the same text.
+fn times(alloc: Global, text: &str, count: usize) -> Result<String, AllocError> {
+    let mut whole = String::new(alloc);
+    for _ in 0..count {
+        whole.push_str(text)?;
+    }
+    Ok(whole)
+}
+
+#[test]
+fn limits_of_sources(rt: HostRuntime) -> Result<(), Fail> {
+    let alloc = rt.alloc();
+    let mut brackets = String::from_str(alloc, "contract Z() { function f() { require(")?;
+    brackets.push_str(times(alloc, "(", 64)?.as_str())?;
+    let text = printed(alloc, brackets.as_bytes())?;
+    assert_eq!(rt; text.as_str(), "refused 1:102 TooDeep");
+    let blanks = times(alloc, " ", 65_536)?;
+    let text = printed(alloc, blanks.as_bytes())?;
+    assert_eq!(rt; text.as_str(), "refused 1:65537 Syntax");
+    let blanks = times(alloc, " ", 65_537)?;
+    let text = printed(alloc, blanks.as_bytes())?;
+    assert_eq!(rt; text.as_str(), "refused SourceTooLong");
+    assert_eq!(rt; printed(alloc, b"\xff")?.as_str(), "refused NotUtf8 0");
+    assert_eq!(rt;
+        printed(alloc, b"a\xc3\xa9\xc3(")?.as_str(),
+        "refused NotUtf8 3"
+    );
+    Ok(())
+}
+
+#[test]
+fn the_129th_if_is_too_deep(rt: HostRuntime) -> Result<(), Fail> {
+    let alloc = rt.alloc();
+    let source = times(alloc, "if ", 129)?;
+    let source = source.as_bytes();
+    assert_eq!(rt; source.len(), 387);
+    let span = Span { from: 384, to: 386 };
+    let rule = DepthRule::Branches;
+    let fault = ParseFault::TooDeep { rule, span };
+    assert_eq!(rt; compile(alloc, source).err(), Some(Refusal::Parse(fault)));
+    Ok(())
+}
+
+#[test]
+fn lines_and_columns(rt: HostRuntime) -> Result<(), Fail> {
+    for (at, place) in [
+        (0, (1, 1)),
+        (2, (1, 3)),
+        (3, (2, 1)),
+        (4, (3, 1)),
+        (5, (3, 2)),
+    ] {
+        assert_eq!(rt; line_col("ab\n\nc", at), place);
     }
     Ok(())
 }

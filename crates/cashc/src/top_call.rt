@@ -4,12 +4,16 @@ ghost use Rattle.std.specs.Prelude.{◌≡◌, ◌≢◌, ◌⊎◌, ◌≤◌, 
 ghost use Rattle.script_codec.specs.declared.instr.Instr.{Instr};
 ghost use Rattle.hex.specs.Hex.{encode_lower};
 ghost use Rattle.cash_base.specs.Outside.{Grew};
-ghost use Rattle.cashc.specs.Form.{max_source_len};
-ghost use Rattle.cashc.specs.Compile.{IsCompiled, IsRefused, IsOfNoForm};
-ghost use Rattle.cashc.specs.TopCall.{named_source as source_of, code_line, usage, not_built, read_failed, out_of_memory, IsLine, IsRefusal, IsMisuse, HasReadCause, Stopped, Tried};
+ghost use Rattle.cashc.specs.declared.refusal.Refusal.{Refusal as Cause};
+ghost use Rattle.cashc.specs.declared.refusal.Refusal.TheVariants.{Memory as WithoutMemory};
+ghost use Rattle.cashc.specs.Compile.{max_source_len, IsCompiled, IsRefused};
+ghost use Rattle.cashc.specs.RefusalText.{out_of_memory, refusal_text};
+ghost use Rattle.cashc.specs.TopCall.{named_source as source_of, code_line, usage, read_failed, IsLine, IsRefusal, IsMisuse, HasReadCause, Stopped, Tried};
 
-use crate::compile::{Refusal, compile};
+use crate::compile::compile;
 use crate::reading::MAX_SOURCE_LEN;
+use crate::refusal::Refusal;
+use crate::refusal_text;
 use cash_base::{Memory, Sink, Store, StoreStop};
 use script_codec::encode;
 use std::alloc::{AllocError, Global};
@@ -18,8 +22,6 @@ const USAGE: &str =
     "usage: cashc compile FILE [--updated-at TEXT] | debug SOURCE SPEND | trace SOURCE SPEND | spend ARTIFACT SPEND | meaning SOURCE SPEND | workload NUMBER\n";
 
 const SOURCE_TOO_LONG: &str = "refused SourceTooLong\n";
-
-const NOT_BUILT: &str = "refused 1:1 NotBuilt\n";
 
 const READ_FAILED: &str = "read failed\n";
 
@@ -30,7 +32,7 @@ const OUT_OF_MEMORY: &str = "out of memory\n";
 /// `compile FILE` reads a source and writes the line `code HEX`. The statuses are
 ///
 /// - 0: the line was written to `out`.
-/// - 1: the source is refused: it is longer than 65,536 bytes, or it isn't of the form that is built so far.
+/// - 1: the source is refused: the line on `err` is that of its one [`Refusal`].
 /// - 2: the words are no command that is built so far.
 /// - 5: the store had a fault, or has no such file.
 /// - 6: a sink had a fault.
@@ -100,10 +102,12 @@ fn compile_source<K: Sink, E: Sink>(alloc: Global, source: &[u8], out: &mut K, e
         ((code : List Instr) × IsCompiled source.now code × Grew (K.written out.old) (K.written out.new) (code_line code))
         × (E.written err.new ≡ E.written err.old) }
     ensures refused { result ≡ 1 →
-        IsOfNoForm source.now × Grew (E.written err.old) (E.written err.new) not_built
+        ((refusal : Cause) × IsRefused source.now refusal
+        × Grew (E.written err.old) (E.written err.new) (refusal_text source.now refusal))
         × (K.written out.new ≡ K.written out.old) }
     ensures stopped { result ≡ 6 →
-        (IsOfNoForm source.now × Stopped (E.faults err.old) (E.faults err.new) (E.written err.old) (E.written err.new) not_built
+        ((refusal : Cause) × IsRefused source.now refusal
+        × Stopped (E.faults err.old) (E.faults err.new) (E.written err.old) (E.written err.new) (refusal_text source.now refusal)
         × (K.written out.new ≡ K.written out.old))
         ⊎ ((code : List Instr) × IsCompiled source.now code
         × Stopped (K.faults out.old) (K.faults out.new) (K.written out.old) (K.written out.new) (code_line code)
@@ -114,9 +118,25 @@ fn compile_source<K: Sink, E: Sink>(alloc: Global, source: &[u8], out: &mut K, e
 {
     match line_of(alloc, source) {
         Ok(line) => show(out, line.as_slice()),
-        Err(Refusal::NotBuilt { .. }) => refuse(err, NOT_BUILT.as_bytes(), 1),
-        Err(Refusal::SourceTooLong { .. }) => refuse(err, SOURCE_TOO_LONG.as_bytes(), 1),
         Err(Refusal::Memory) => fail(err, OUT_OF_MEMORY.as_bytes(), 7),
+        Err(refusal) => refuse_source(alloc, source, refusal, err),
+    }
+}
+
+/// Writes why a source is refused.
+fn refuse_source<E: Sink>(alloc: Global, source: &[u8], refusal: Refusal, err: &mut E) -> u8
+    requires short { length source.now ≤ max_source_len }
+    requires refused { IsRefused source.now refusal }
+    ensures refused { result ≡ 1 → Grew (E.written err.old) (E.written err.new) (refusal_text source.now refusal) }
+    ensures stopped { result ≡ 6 →
+        Stopped (E.faults err.old) (E.faults err.new) (E.written err.old) (E.written err.new) (refusal_text source.now refusal) }
+    ensures memory { result ≡ 7 →
+        Tried (E.faults err.old) (E.faults err.new) (E.written err.old) (E.written err.new) out_of_memory }
+    ensures only { (result ≡ 1) ⊎ (result ≡ 6) ⊎ (result ≡ 7) }
+{
+    match refusal_text::refusal_text(alloc, source, refusal) {
+        Ok(text) => refuse(err, text.as_bytes(), 1),
+        Err(Memory) => fail(err, OUT_OF_MEMORY.as_bytes(), 7),
     }
 }
 
@@ -124,7 +144,7 @@ fn compile_source<K: Sink, E: Sink>(alloc: Global, source: &[u8], out: &mut K, e
 fn line_of(alloc: Global, source: &[u8]) -> Result<Vec<u8>, Refusal>
     requires { length source.now ≤ max_source_len }
     ensures line { IfOk result (λ line. (code : List Instr) × IsCompiled source.now code × (line.items ≡ code_line code)) }
-    ensures refused { IfErr result (λ refusal. IsRefused source.now refusal) }
+    ensures refused { IfErr result (λ refusal. refusal ≢ WithoutMemory → IsRefused source.now refusal) }
 {
     let code = compile(alloc, source)?;
     Ok(framed(alloc, encode(alloc, code.as_slice())?.as_slice())?)

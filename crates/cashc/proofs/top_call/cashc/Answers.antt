@@ -1,5 +1,6 @@
 use Rattle.std.proofs.Common.{rules, ◌≡◌, ◌∙◌, Some, Err, inl, inr, refl, sym, ap}
-use Rattle.cashc.specs.TopCall.{named_source, code_line, not_built, IsLongSource, HasReadCause}
+use Rattle.cashc.specs.RefusalText.{refusal_text}
+use Rattle.cashc.specs.TopCall.{named_source, code_line, IsLongSource, HasReadCause}
 use Rattle.cashc.proofs.Told.{source_read}
 use Rattle.cashc.proofs.top_call.cashc.Goals as goal
 
@@ -7,16 +8,18 @@ pub returns-in-Ok-clause-refused : goal.returns-in-Ok-clause-refused
 returns-in-Ok-clause-refused g c = λ e.
     let reads = c.in-Ok.ensures.reads in
     let told = c.compile_source.ensures.refused e in
+    let source = c.as_slice.result.now in
     let read = source_read _ c.args.words.now _ _ _ (sym c.in-Some.ensures ∙ ap Some (sym c.as_str.ensures.value)) reads.whole reads.within c.as_slice.ensures.value in
-    ((not_built, inr (c.as_slice.result.now, read.0, read.1, told.0, refl), told.1), told.2)
+    ((refusal_text source told.0.0, inr (source, told.0.0, read.0, read.1, told.0.1, refl), told.0.2), told.1)
 
 pub returns-in-Ok-clause-stopped : goal.returns-in-Ok-clause-stopped
 returns-in-Ok-clause-stopped g c = λ e.
     let reads = c.in-Ok.ensures.reads in
+    let source = c.as_slice.result.now in
     let read = source_read _ c.args.words.now _ _ _ (sym c.in-Some.ensures ∙ ap Some (sym c.as_str.ensures.value)) reads.whole reads.within c.as_slice.ensures.value in
     elim (c.compile_source.ensures.stopped e) [
-      | inl t ↦ inl (not_built, inl (inr (c.as_slice.result.now, read.0, read.1, t.0, refl)), t.1, t.2)
-      | inr t ↦ inr (code_line t.0, (c.as_slice.result.now, t.0, read.0, t.1, refl), t.2, t.3)
+      | inl t ↦ inl (refusal_text source t.0, inl (inr (source, t.0, read.0, read.1, t.1, refl)), t.2, t.3)
+      | inr t ↦ inr (code_line t.0, (source, t.0, read.0, t.1, refl), t.2, t.3)
     ]
 
 pub returns-in-Err-TooLong-clause-stopped : goal.returns-in-Err-TooLong-clause-stopped

@@ -1,0 +1,65 @@
+-- How a refusal is printed: with the line and the column of its place, and its name.
+use Rattle.std.specs.Prelude.{ℕ, List, ◌++◌, length, codes, slice_get, Option, Some, None, Result, Ok, Err}
+use Rattle.std.specs.Fmt.{decimal}
+use Rattle.cash_tree.specs.declared.Token.{Token}
+use Rattle.cash_lexer.specs.declared.fault.LexFault.{LexFault}
+use Rattle.cash_lexer.specs.declared.fault.LexFault.TheVariants as lexer
+use Rattle.cash_lexer.specs.Tokens.{lexed}
+use Rattle.cash_parser.specs.declared.fault.ParseFault.{ParseFault}
+use Rattle.cash_parser.specs.declared.fault.ParseFault.TheVariants as parser
+use Rattle.cashc.specs.declared.refusal.Refusal.{Refusal}
+use Rattle.cashc.specs.declared.refusal.Refusal.TheVariants.{SourceTooLong, NotUtf8, Lex, Parse, NotBuilt, Memory}
+use Rattle.cashc.specs.SpanMap.{line_col}
+
+-- ---- places
+
+abbrev pub start_or : ℕ → Option Token → ℕ
+start_or end (Some token) = token.span.from
+start_or end None = end
+
+abbrev pub start_in : ℕ → ℕ → Result (List Token) LexFault → ℕ
+start_in end n (Ok tokens) = start_or end (slice_get tokens n)
+start_in end n (Err fault) = end
+
+-- where the token with this number begins, or else the end of the source
+abbrev pub token_start : List ℕ → ℕ → ℕ
+token_start source n = start_in (length source) n (lexed source)
+
+-- ---- texts
+
+-- the line that names a fault at a line and a column
+abbrev pub named_at : ℕ → ℕ → List ℕ → List ℕ
+named_at line column name = codes "refused " ++ decimal line ++ codes ":" ++ decimal column ++ codes " " ++ name ++ codes "\n"
+
+-- the line that refuses a source at a place
+abbrev pub at_place : List ℕ → ℕ → List ℕ → List ℕ
+at_place source at name = let place = line_col source at in named_at place.0 place.1 name
+
+abbrev pub source_too_long : List ℕ
+source_too_long = codes "refused SourceTooLong\n"
+
+abbrev pub out_of_memory : List ℕ
+out_of_memory = codes "out of memory\n"
+
+abbrev pub lex_text : List ℕ → LexFault → List ℕ
+lex_text source (lexer.BadCharacter span) = at_place source span.from (codes "BadCharacter")
+lex_text source (lexer.OpenString span) = at_place source span.from (codes "OpenString")
+lex_text source (lexer.OpenComment span) = at_place source span.from (codes "OpenComment")
+lex_text source (lexer.NumberTooWide span) = at_place source span.from (codes "NumberTooWide")
+lex_text source (lexer.OddHex span) = at_place source span.from (codes "OddHex")
+lex_text source (lexer.BadDate span) = at_place source span.from (codes "BadDate")
+lex_text source lexer.Memory = out_of_memory
+
+abbrev pub parse_text : List ℕ → ParseFault → List ℕ
+parse_text source (parser.TooDeep rule span) = at_place source span.from (codes "TooDeep")
+parse_text source (parser.Syntax token) = at_place source (token_start source token) (codes "Syntax")
+parse_text source parser.Memory = out_of_memory
+
+-- the line that refuses a source
+abbrev pub refusal_text : List ℕ → Refusal → List ℕ
+refusal_text source (SourceTooLong bytes) = source_too_long
+refusal_text source (NotUtf8 at) = codes "refused NotUtf8 " ++ decimal at ++ codes "\n"
+refusal_text source (Lex fault) = lex_text source fault
+refusal_text source (Parse fault) = parse_text source fault
+refusal_text source (NotBuilt span) = at_place source span.from (codes "NotBuilt")
+refusal_text source Memory = out_of_memory

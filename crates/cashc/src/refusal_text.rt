@@ -1,0 +1,107 @@
+//! How a refusal is printed.
+
+ghost use Rattle.std.specs.Prelude.{◌≡◌, ◌≢◌, ◌≤◌, length, string_bytes, [], IfOk};
+ghost use Rattle.cashc.specs.Compile.{IsText, IsRefused, max_source_len};
+ghost use Rattle.cashc.specs.RefusalText;
+ghost use Rattle.cashc.specs.RefusalText.{named_at, at_place, lex_text, parse_text};
+
+use crate::refusal::Refusal;
+use crate::span_map::line_col_of;
+use cash_base::Memory;
+use cash_lexer::{LexFault, tokens};
+use cash_parser::ParseFault;
+use std::alloc::{AllocError, Global};
+
+/// Where the token with this number begins, or else the end of the source.
+fn token_start(alloc: Global, source: &[u8], number: u32) -> Result<u32, Memory>
+    requires { IsText source.now }
+    ensures { IfOk result (λ at. at ≡ RefusalText.token_start source.now number) }
+{
+    let end = source.len() as u32;
+    let Ok(text) = str::from_utf8(source) else {
+        unreachable!();
+    };
+    match tokens(alloc, text) {
+        Ok(tokens) => match tokens.get(number as usize) {
+            Some(token) => Ok(token.span.from),
+            None => Ok(end),
+        },
+        Err(LexFault::Memory) => Err(Memory),
+        Err(_) => Ok(end),
+    }
+}
+
+/// The line that names a fault at a line and a column.
+fn named_at(alloc: Global, line: u32, column: u32, name: &str) -> Result<String, AllocError>
+    ensures { IfOk result (λ text. string_bytes text ≡ named_at line column name.now) }
+{
+    let mut text = String::from_str(alloc, "refused ")?;
+    text.push_str(line.to_string(alloc)?.as_str())?;
+    text.push_str(":")?;
+    text.push_str(column.to_string(alloc)?.as_str())?;
+    text.push_str(" ")?;
+    text.push_str(name)?;
+    text.push_str("\n")?;
+    Ok(text)
+}
+
+/// The line that refuses a source at a place.
+fn at_place(alloc: Global, source: &[u8], at: u32, name: &str) -> Result<String, AllocError>
+    requires { length source.now ≤ max_source_len }
+    ensures { IfOk result (λ text. string_bytes text ≡ at_place source.now at name.now) }
+{
+    let (line, column) = line_col_of(source, at);
+    named_at(alloc, line, column, name)
+}
+
+fn lex_text(alloc: Global, source: &[u8], fault: LexFault) -> Result<String, Memory>
+    requires { length source.now ≤ max_source_len }
+    ensures { IfOk result (λ text. string_bytes text ≡ lex_text source.now fault) }
+{
+    let (span, name) = match fault {
+        LexFault::BadCharacter { span } => (span, "BadCharacter"),
+        LexFault::OpenString { span } => (span, "OpenString"),
+        LexFault::OpenComment { span } => (span, "OpenComment"),
+        LexFault::NumberTooWide { span } => (span, "NumberTooWide"),
+        LexFault::OddHex { span } => (span, "OddHex"),
+        LexFault::BadDate { span } => (span, "BadDate"),
+        LexFault::Memory => return Err(Memory),
+    };
+    Ok(at_place(alloc, source, span.from, name)?)
+}
+
+fn parse_text(alloc: Global, source: &[u8], fault: ParseFault) -> Result<String, Memory>
+    requires { IsText source.now }
+    ensures { IfOk result (λ text. string_bytes text ≡ parse_text source.now fault) }
+{
+    let (at, name) = match fault {
+        ParseFault::TooDeep { span, .. } => (span.from, "TooDeep"),
+        ParseFault::Syntax { token } => (token_start(alloc, source, token)?, "Syntax"),
+        ParseFault::Memory => return Err(Memory),
+    };
+    Ok(at_place(alloc, source, at, name)?)
+}
+
+/// The line that refuses a source.
+///
+/// It is `refused LINE:COL NAME`, where the name is that of the innermost fault; `refused NotUtf8 AT`; or `refused
+/// SourceTooLong`. A Syntax stands at its token, or at the end of the source.
+///
+/// # Errors
+///
+/// `Memory`, where memory ran out.
+pub fn refusal_text(alloc: Global, source: &[u8], refusal: Refusal) -> Result<String, Memory>
+    requires short { length source.now ≤ max_source_len }
+    requires refused { IsRefused source.now refusal }
+    ensures text { IfOk result (λ text. string_bytes text ≡ RefusalText.refusal_text source.now refusal) }
+    ensures some { IfOk result (λ text. string_bytes text ≢ []) }
+{
+    match refusal {
+        Refusal::SourceTooLong { .. } => Ok(String::from_str(alloc, "refused SourceTooLong\n")?),
+        Refusal::NotUtf8 { at } => Ok(format!(in alloc; "refused NotUtf8 {at}\n")?),
+        Refusal::Lex(fault) => lex_text(alloc, source, fault),
+        Refusal::Parse(fault) => parse_text(alloc, source, fault),
+        Refusal::NotBuilt { span } => Ok(at_place(alloc, source, span.from, "NotBuilt")?),
+        Refusal::Memory => Err(Memory),
+    }
+}
