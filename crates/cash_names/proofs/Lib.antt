@@ -1,0 +1,10 @@
+pub mod Granted
+pub mod Arms
+pub mod Places
+pub mod Run
+pub mod StmtPlaces
+pub mod StmtNamed
+pub mod Whole
+pub mod Kept
+pub mod Scoping
+pub mod Requirement

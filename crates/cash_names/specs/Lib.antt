@@ -1,0 +1,9 @@
+pub mod Names
+pub mod Pragmas
+pub mod Wants
+pub mod Expressions
+pub mod Outline
+pub mod Reading
+pub mod Scopes
+pub mod Answer
+pub mod Nodes
