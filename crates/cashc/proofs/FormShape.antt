@@ -1,10 +1,7 @@
--- The contract that a tree of the form stands for is an equality.
-use Rattle.std.proofs.Common.{◌≡◌, ℕ, ◌+◌, ◌*◌, ◌<◌, ◌≤◌, Bool, true, false, cond, List, [], ◌∷◌, length, Option, Some, None, suc, refl, sym, ap, ◌∙◌, subst, arith, inl, inr}
-use Rattle.std.specs.Prelude.{IfSome, nat_le, option_map, ◌&&◌}
-use Rattle.std.specs.Str.{bytes_eq}
-use Rattle.std.specs.List.{position_from}
-use Rattle.std.proofs.lemmas.Bool.{leb-true}
-use Rattle.cash_base.specs.declared.place.Span.{Span}
+-- The contract that a named tree of the form stands for is an equality.
+use Rattle.std.proofs.Common.{◌≡◌, ℕ, ◌+◌, ◌*◌, ◌≤◌, ◌==◌, Bool, true, false, cond, List, [], ◌∷◌, length, Option, Some, None, suc, refl, sym, ap, ◌∙◌, subst, arith, inl, inr}
+use Rattle.std.specs.Prelude.{nat_le, nat_lt, option_map, ◌&&◌}
+use Rattle.std.proofs.lemmas.Bool.{leb-true, ltb-true}
 use Rattle.cash_base.specs.declared.place.Slot.{Slot}
 use Rattle.cash_tree.specs.declared.Ty.{Ty}
 use Rattle.cash_tree.specs.declared.Contract.{Contract}
@@ -14,10 +11,9 @@ use Rattle.cash_tree.specs.declared.Expr.{Expr}
 use Rattle.cash_tree.specs.declared.ExprKind.{ExprKind}
 use Rattle.cash_tree.specs.declared.ExprKind.TheVariants as nodes
 use Rattle.cash_tree.specs.declared.ExprKind.TheOpen.{ExprKind-F}
-use Rattle.cash_parser.specs.Lexemes.{text_at}
-use Rattle.cash_parser.specs.Grammar.{Expression}
-use Rattle.cash_parser.specs.Files.{Tree, FunctionTree}
-use Rattle.cashc.specs.Form.{◌>>=◌, Open, opened, Parts, only, required, equated, are_ints, are_few_ints, is_bare, equality_in, place_of, all_differ, slot, operand_kind, operand_of, operand, params_from, value_of, statement_of, function_of, contract_of, formed, named, first_form, AreInSlots, IsOperandKind, IsComparison, IsEqualityFunction, IsEquality}
+use Rattle.cash_names.specs.Expressions.{NamedExpr}
+use Rattle.cash_names.specs.Outline.{NamedTree}
+use Rattle.cashc.specs.Form.{◌>>=◌, Open, opened, Parts, only, required, equated, are_ints, are_in_slots, are_few_ints, equality_in, slot, operand_kind, operand_of, operand, params_from, value_of, statement_of, function_of, contract_of, formed, compared, first_form, AreInSlots, IsOperandKind, IsComparison, IsEqualityFunction, IsEquality}
 
 -- a step that gives something: what its first part gave, and what the rest gives of that
 bind_some : {A B : Type 0} (r : Option A) (f : A → Option B) (y : B) → (r >>= f) ≡ Some y → (x : A) × (r ≡ Some x) × (f x ≡ Some y)
@@ -38,68 +34,52 @@ chosen false x y e = absurd cc
 
 -- ---- operands
 
--- a place is one of the parameters
-place_within : (source text : List ℕ) (params : List (Param Span)) (i : ℕ) (r : Option ℕ)
-    → position_from (λ (param : Param Span). bytes_eq (text_at source param.name) text) i params ≡ r → IfSome r (λ k. k < i + length params)
-place_within source text params i None e = tt
-place_within source text [] i (Some k) e = absurd cc
-place_within source text (param ∷ params) i (Some k) e =
-    elim (bytes_eq (text_at source param.name) text) as (λ (b : Bool). cond b (Some i) (position_from (λ (p : Param Span). bytes_eq (text_at source p.name) text) (i + 1) params) ≡ Some k → k < i + length (param ∷ params))
-    [ true ↦ λ h. let same = some_is h in omega arith | false ↦ λ h. let less = place_within source text params (i + 1) (Some k) h in omega arith ] e
-
-within_length : (r : Option ℕ) (n : ℕ) → IfSome r (λ k. k < 0 + n) → IfSome r (λ k. k < n)
-within_length None n h = tt
-within_length (Some k) n h = omega arith
-
-place_kind : (r : Option ℕ) (count : ℕ) (kind : ExprKind Slot Ty) → IfSome r (λ k. k < count) → option_map (λ k. nodes.Name (slot k)) r ≡ Some kind → IsOperandKind count kind
-place_kind None count kind within e = absurd cc
-place_kind (Some k) count kind within e = inl (k, within, sym (some_is e))
+slot_kind : (name : Slot) (count : ℕ) (kind : ExprKind Slot Ty) (test : Bool) → nat_lt name.0 count ≡ test → cond test (Some (nodes.Name name)) None ≡ Some kind → IsOperandKind count kind
+slot_kind name count kind true is e = inl (name.0, ltb-true name.0 count is, sym (some_is e))
+slot_kind name count kind false is e = absurd cc
 
 small_kind : (digits unit count : ℕ) (kind : ExprKind Slot Ty) (test : Bool) → nat_le (digits * unit) 16 ≡ test → cond test (Some (nodes.Int digits unit)) None ≡ Some kind → IsOperandKind count kind
 small_kind digits unit count kind true is e = inr (digits, unit, leb-true (digits * unit) 16 is, sym (some_is e))
 small_kind digits unit count kind false is e = absurd cc
 
-kind_is : (source : List ℕ) (params : List (Param Span)) (k : Open) (kind : ExprKind Slot Ty) → operand_kind source params k ≡ Some kind → IsOperandKind (length params) kind
-unfolding operand_kind place_of
-kind_is source params (ExprKind-F.Name name) kind e =
-    let text = text_at source name in
-    let within = within_length (place_of source text params) (length params) (place_within source text params 0 (place_of source text params) refl) in
-    place_kind (place_of source text params) (length params) kind within e
-kind_is source params (ExprKind-F.Int digits unit) kind e = small_kind digits unit (length params) kind (nat_le (digits * unit) 16) refl e
-kind_is source params _ kind e = absurd cc
+kind_is : (count : ℕ) (k : Open) (kind : ExprKind Slot Ty) → operand_kind count k ≡ Some kind → IsOperandKind count kind
+unfolding operand_kind
+kind_is count (ExprKind-F.Name name) kind e = slot_kind name count kind (nat_lt name.0 count) refl e
+kind_is count (ExprKind-F.Int digits unit) kind e = small_kind digits unit count kind (nat_le (digits * unit) 16) refl e
+kind_is count _ kind e = absurd cc
 
-operand_is : (source : List ℕ) (params : List (Param Span)) (e : Expression) (x : Expr Slot Ty) → operand source params e ≡ Some x → IsOperandKind (length params) x.kind
+operand_is : (count : ℕ) (e : NamedExpr) (x : Expr Slot Ty) → operand count e ≡ Some x → IsOperandKind count x.kind
 unfolding operand
-operand_is source params e x h =
-    let k = map_some (operand_of e.span) (operand_kind source params (opened e.kind)) x h in
-    subst (λ (y : Expr Slot Ty). IsOperandKind (length params) y.kind) k.2 (kind_is source params (opened e.kind) k.0 k.1)
+operand_is count e x h =
+    let k = map_some (operand_of e.span) (operand_kind count (opened e.kind)) x h in
+    subst (λ (y : Expr Slot Ty). IsOperandKind count y.kind) k.2 (kind_is count (opened e.kind) k.0 k.1)
 
 -- ---- the function
 
-few_from : (params : List (Param Span)) (test : Bool) → nat_le (length params) 16 ≡ test → test && are_ints params ≡ true → length params ≤ 16
-few_from params true is e = leb-true (length params) 16 is
-few_from params false is e = absurd cc
+few_from : (params : List (Param Slot)) (test rest : Bool) → nat_le (length params) 16 ≡ test → test && rest ≡ true → length params ≤ 16
+few_from params true rest is e = leb-true (length params) 16 is
+few_from params false rest is e = absurd cc
 
-few_ints : (params : List (Param Span)) (bare : Bool) → bare && are_few_ints params ≡ true → length params ≤ 16
+few_ints : (params : List (Param Slot)) (bare : Bool) → bare && are_few_ints params ≡ true → length params ≤ 16
 unfolding are_few_ints
-few_ints params true e = few_from params (nat_le (length params) 16) refl e
+few_ints params true e = few_from params (nat_le (length params) 16) (are_ints params && are_in_slots 0 params) refl e
 few_ints params false e = absurd cc
 
-equality_is : (tree : Tree) (e : Parts) → equality_in tree ≡ Some e → length e.function.params ≤ 16
+equality_is : (tree : NamedTree) (e : Parts) → equality_in tree ≡ Some e → length e.function.params ≤ 16
 unfolding equality_in
 equality_is tree e is =
     let f = bind_some (only tree.functions) _ e is in
     let s = bind_some (only f.0.body) _ e f.2 in
     let value = bind_some (required s.0.kind) _ e s.2 in
     let sides = bind_some (equated (opened value.0.kind)) _ e value.2 in
-    let both = chosen (is_bare tree && are_few_ints f.0.params) _ e sides.2 in
-    subst (λ (p : Parts). length p.function.params ≤ 16) both.1 (few_ints f.0.params (is_bare tree) both.0)
+    let both = chosen ((length tree.params == 0) && are_few_ints f.0.params) _ e sides.2 in
+    subst (λ (p : Parts). length p.function.params ≤ 16) both.1 (few_ints f.0.params (length tree.params == 0) both.0)
 
-length-params_from : (k : ℕ) (params : List (Param Span)) → length (params_from k params) ≡ length params
+length-params_from : (k : ℕ) (params : List (Param Slot)) → length (params_from k params) ≡ length params
 length-params_from k [] = refl
 length-params_from k (param ∷ params) = ap suc (length-params_from (k + 1) params)
 
-in_slots : (k : ℕ) (params : List (Param Span)) → AreInSlots k (params_from k params)
+in_slots : (k : ℕ) (params : List (Param Slot)) → AreInSlots k (params_from k params)
 in_slots k [] = tt
 in_slots k (param ∷ params) = (refl, in_slots (k + 1) params)
 
@@ -130,20 +110,20 @@ function_is x few l r =
 
 -- ---- the contract
 
-contract_is : (tree : Tree) (function : Function Slot Ty) → IsEqualityFunction function → IsEquality (contract_of tree function)
+contract_is : (tree : NamedTree) (function : Function Slot Ty) → IsEqualityFunction function → IsEquality (contract_of tree function)
 unfolding contract_of
 contract_is tree function body = record { f = function; no_params = refl; one_function = refl; body = body }
 
-pub form_is : (source : List ℕ) (tree : Tree) (contract : Contract Slot Ty) → first_form source tree ≡ Some contract → IsEquality contract
-unfolding named first_form
-form_is source tree contract is =
-    let x = bind_some (named source tree) _ contract is in
+pub form_is : (tree : NamedTree) (contract : Contract Slot Ty) → first_form tree ≡ Some contract → IsEquality contract
+unfolding compared first_form
+form_is tree contract is =
+    let x = bind_some (compared tree) _ contract is in
     let e = bind_some (equality_in tree) _ x.0 x.1 in
-    let left = bind_some (operand source e.0.function.params e.0.left) _ x.0 e.2 in
-    let right = bind_some (operand source e.0.function.params e.0.right) _ x.0 left.2 in
-    let both = chosen (all_differ source e.0.function.params) (e.0, left.0, right.0) x.0 right.2 in
-    let l = operand_is source e.0.function.params e.0.left left.0 left.1 in
-    let r = operand_is source e.0.function.params e.0.right right.0 right.1 in
+    let count = length e.0.function.params in
+    let left = bind_some (operand count e.0.left) _ x.0 e.2 in
+    let right = bind_some (operand count e.0.right) _ x.0 left.2 in
+    let l = operand_is count e.0.left left.0 left.1 in
+    let r = operand_is count e.0.right right.0 right.1 in
     let body = function_is (e.0, left.0, right.0) (equality_is tree e.0 e.1) l r in
     let P : Parts × Expr Slot Ty × Expr Slot Ty → Type 0 = λ y. IsEqualityFunction (formed y) in
-    subst IsEquality (some_is x.2) (contract_is tree (formed x.0) (subst P both.1 body))
+    subst IsEquality (some_is x.2) (contract_is tree (formed x.0) (subst P (some_is right.2) body))

@@ -1,15 +1,27 @@
--- What a source with a tree stands for.
-use Rattle.std.proofs.Common.{◌≡◌, ℕ, List, None, Some, refl}
+-- What a source with a named tree stands for.
+use Rattle.std.proofs.Common.{◌≡◌, ◌≢◌, ℕ, List, None, Some, refl, inl, inr}
 use Rattle.cash_base.specs.declared.place.Slot.{Slot}
 use Rattle.cash_tree.specs.declared.Ty.{Ty}
 use Rattle.cash_tree.specs.declared.Contract.{Contract}
 use Rattle.cash_parser.specs.Files.{Tree}
-use Rattle.cashc.specs.declared.refusal.Refusal.TheVariants.{NotBuilt}
+use Rattle.cash_names.specs.declared.fault.NameFault.{NameFault}
+use Rattle.cash_names.specs.declared.fault.NameFault.TheVariants as names
+use Rattle.cash_names.specs.Outline.{NamedTree}
+use Rattle.cash_names.specs.Scopes.{IsNamed}
+use Rattle.cash_names.specs.Answer.{IsFaultOf}
+use Rattle.cashc.specs.declared.refusal.Refusal.TheVariants.{Name, NotBuilt}
 use Rattle.cashc.specs.Form.{first_form}
-use Rattle.cashc.specs.Compile.{HasTree, IsAccepted, IsRefused}
+use Rattle.cashc.specs.Compile.{HasTree, HasNames, IsAccepted, IsRefused}
 
-pub accepted_from : (source : List ℕ) (tree : Tree) (contract : Contract Slot Ty) → HasTree source tree → first_form source tree ≡ Some contract → IsAccepted source contract
-accepted_from source tree contract parsed formed = record { tree = tree; parsed = parsed; formed = formed }
+pub names_from : (source : List ℕ) (tree : Tree) (named : NamedTree) → HasTree source tree → IsNamed source tree named → HasNames source named
+names_from source tree named parsed is = record { tree = tree; parsed = parsed; names = is }
 
-pub unbuilt_from : (source : List ℕ) (tree : Tree) → HasTree source tree → first_form source tree ≡ None → IsRefused source (NotBuilt tree.span)
-unbuilt_from source tree parsed none = (tree, parsed, none, refl)
+pub name_fault_from : (source : List ℕ) (tree : Tree) (fault : NameFault) → HasTree source tree → IsFaultOf source tree fault → fault ≢ names.Memory → IsRefused source (Name fault)
+name_fault_from source tree fault parsed (inl is) other = absurd (other is)
+name_fault_from source tree fault parsed (inr is) other = (tree, parsed, is)
+
+pub accepted_from : (source : List ℕ) (named : NamedTree) (contract : Contract Slot Ty) → HasNames source named → first_form named ≡ Some contract → IsAccepted source contract
+accepted_from source named contract resolved formed = record { named = named; resolved = resolved; formed = formed }
+
+pub unbuilt_from : (source : List ℕ) (named : NamedTree) → HasNames source named → first_form named ≡ None → IsRefused source (NotBuilt named.span)
+unbuilt_from source named resolved none = (named, resolved, none, refl)

@@ -16,14 +16,24 @@ use Rattle.cash_parser.specs.Lexemes.{Lexeme, lexemes}
 use Rattle.cash_parser.specs.DepthRules.{deepest_token}
 use Rattle.cash_parser.specs.Files.{Tree, SpellsFile}
 use Rattle.cash_parser.specs.Answer.{IsNone}
+use Rattle.cash_names.specs.declared.fault.NameFault.{NameFault}
+use Rattle.cash_names.specs.Outline.{NamedTree}
+use Rattle.cash_names.specs.Scopes.{IsNamed, first_name_fault}
+use Rattle.cash_names.specs.Answer.{HasNone}
 use Rattle.cashc.specs.declared.refusal.Refusal.{Refusal}
-use Rattle.cashc.specs.declared.refusal.Refusal.TheVariants.{SourceTooLong, NotUtf8, Lex, Parse, NotBuilt, Memory}
+use Rattle.cashc.specs.declared.refusal.Refusal.TheVariants.{SourceTooLong, NotUtf8, Lex, Parse, Name, NotBuilt, Memory}
 use Rattle.cashc.specs.Form.{first_form}
-use Rattle.cashc.specs.Compile.{max_source_len, IsText, HasTokens, HasTree, IsAccepted, IsFaultOf, IsRefused, AreSame}
+use Rattle.cashc.specs.Compile.{max_source_len, IsText, HasTokens, HasTree, HasNames, IsAccepted, IsFaultOf, IsRefused, AreSame}
 
 -- tokens with their texts spell at most one tree
 abbrev pub OneTree : Type 0
 OneTree = (ts : List Lexeme) (a b : Tree) → SpellsFile ts a → SpellsFile ts b → a ≡ b
+
+-- what the parser and the resolver give: one tree, one named tree, and none where some place of the tree is refused
+pub record Laws : Type 0 where
+  pub tree : OneTree
+  pub named : (source : List ℕ) (tree : Tree) (a b : NamedTree) → IsNamed source tree a → IsNamed source tree b → a ≡ b
+  pub apart : (source : List ℕ) (tree : Tree) (fault : NameFault) → first_name_fault source tree ≡ Some fault → HasNone source tree
 
 abbrev found : List Token → Result (List Token) LexFault
 found tokens = Ok tokens
@@ -48,9 +58,14 @@ one_tree_of law source a b h k =
     law (lexemes source h.tokens) a b h.spelled
     (subst (λ (ts : List Token). SpellsFile (lexemes source ts) b) (one_tokens source k.tokens h.tokens k.cut h.cut) k.spelled)
 
-pub one_contract_is : OneTree → (source : List ℕ) (a b : Contract Slot Ty) → IsAccepted source a → IsAccepted source b → a ≡ b
-one_contract_is law source a b h k =
-    let same : Some a ≡ Some b = sym h.formed ∙ ap (λ (t : Tree). first_form source t) (one_tree_of law source h.tree k.tree h.parsed k.parsed) ∙ k.formed in
+one_named_of : Laws → (source : List ℕ) (a b : NamedTree) → HasNames source a → HasNames source b → a ≡ b
+one_named_of laws source a b h k =
+    laws.named source h.tree a b h.names
+    (subst (λ (t : Tree). IsNamed source t b) (one_tree_of laws.tree source k.tree h.tree k.parsed h.parsed) k.names)
+
+pub one_contract_is : Laws → (source : List ℕ) (a b : Contract Slot Ty) → IsAccepted source a → IsAccepted source b → a ≡ b
+one_contract_is laws source a b h k =
+    let same : Some a ≡ Some b = sym h.formed ∙ ap first_form (one_named_of laws source h.named k.named h.resolved k.resolved) ∙ k.formed in
     cc
 
 -- ---- a stage gives something, or it doesn't
@@ -75,18 +90,24 @@ tree_or_fault source tree tokens count fault h cut is =
     fault_or_tree source h.tokens tree count fault h.shallow h.spelled
     (subst (λ (ts : List Token). IsFaultOf (lexemes source ts) count fault) (one_tokens source tokens h.tokens cut h.cut) is)
 
-form_or_none : OneTree → (source : List ℕ) (a b : Tree) (contract : Contract Slot Ty) → HasTree source a → HasTree source b → first_form source a ≡ Some contract → first_form source b ≡ None → ⊥
-form_or_none law source a b contract h k some none =
-    let same : Some contract ≡ None = sym some ∙ ap (λ (t : Tree). first_form source t) (one_tree_of law source a b h k) ∙ none in
+named_or_fault : Laws → (source : List ℕ) (tree : Tree) (named : NamedTree) (fault : NameFault) → HasNames source named → HasTree source tree → first_name_fault source tree ≡ Some fault → ⊥
+named_or_fault laws source tree named fault h k is =
+    laws.apart source tree fault is named
+    (subst (λ (t : Tree). IsNamed source t named) (one_tree_of laws.tree source h.tree tree h.parsed k) h.names)
+
+form_or_none : Laws → (source : List ℕ) (a b : NamedTree) (contract : Contract Slot Ty) → HasNames source a → HasNames source b → first_form a ≡ Some contract → first_form b ≡ None → ⊥
+form_or_none laws source a b contract h k some none =
+    let same : Some contract ≡ None = sym some ∙ ap first_form (one_named_of laws source a b h k) ∙ none in
     cc
 
-pub never_both_are : OneTree → (source : List ℕ) (contract : Contract Slot Ty) (refusal : Refusal) → IsAccepted source contract → IsRefused source refusal → ⊥
-never_both_are law source contract (SourceTooLong bytes) h r = let short = h.parsed.cut.text.short in let long = r.0 in omega arith
-never_both_are law source contract (NotUtf8 at) h r = text_or_bytes source h.parsed.cut.text r.1
-never_both_are law source contract (Lex fault) h r = tokens_or_fault source h.parsed.tokens fault h.parsed.cut r.1
-never_both_are law source contract (Parse fault) h r = tree_or_fault source h.tree r.0 (length r.0) fault h.parsed r.1 r.2
-never_both_are law source contract (NotBuilt span) h r = form_or_none law source h.tree r.0 contract h.parsed r.1 h.formed r.2
-never_both_are law source contract Memory h r = r
+pub never_both_are : Laws → (source : List ℕ) (contract : Contract Slot Ty) (refusal : Refusal) → IsAccepted source contract → IsRefused source refusal → ⊥
+never_both_are laws source contract (SourceTooLong bytes) h r = let short = h.resolved.parsed.cut.text.short in let long = r.0 in omega arith
+never_both_are laws source contract (NotUtf8 at) h r = text_or_bytes source h.resolved.parsed.cut.text r.1
+never_both_are laws source contract (Lex fault) h r = tokens_or_fault source h.resolved.parsed.tokens fault h.resolved.parsed.cut r.1
+never_both_are laws source contract (Parse fault) h r = tree_or_fault source h.resolved.tree r.0 (length r.0) fault h.resolved.parsed r.1 r.2
+never_both_are laws source contract (Name fault) h r = named_or_fault laws source r.0 h.named fault h.resolved r.1 r.2
+never_both_are laws source contract (NotBuilt span) h r = form_or_none laws source h.named r.0 contract h.resolved r.1 h.formed r.2
+never_both_are laws source contract Memory h r = r
 
 -- ---- the one refusal of each stage
 
@@ -95,7 +116,8 @@ from_long source (SourceTooLong bytes) long r = ap (λ (n : ℕ). SourceTooLong 
 from_long source (NotUtf8 at) long r = let short = r.0 in absurd (omega arith)
 from_long source (Lex fault) long r = let short = r.0.short in absurd (omega arith)
 from_long source (Parse fault) long r = let short = r.1.text.short in absurd (omega arith)
-from_long source (NotBuilt span) long r = let short = r.1.cut.text.short in absurd (omega arith)
+from_long source (Name fault) long r = let short = r.1.cut.text.short in absurd (omega arith)
+from_long source (NotBuilt span) long r = let short = r.1.parsed.cut.text.short in absurd (omega arith)
 from_long source Memory long r = absurd r
 
 from_bytes : (source : List ℕ) (b : Refusal) → length source ≤ max_source_len → (IsUtf8 source → ⊥) → IsRefused source b → NotUtf8 (utf8_valid_len source) ≡ b
@@ -103,7 +125,8 @@ from_bytes source (SourceTooLong bytes) short none r = let long = r.0 in absurd 
 from_bytes source (NotUtf8 at) short none r = ap (λ (n : ℕ). NotUtf8 n) (sym r.2)
 from_bytes source (Lex fault) short none r = absurd (text_or_bytes source r.0 none)
 from_bytes source (Parse fault) short none r = absurd (text_or_bytes source r.1.text none)
-from_bytes source (NotBuilt span) short none r = absurd (text_or_bytes source r.1.cut.text none)
+from_bytes source (Name fault) short none r = absurd (text_or_bytes source r.1.cut.text none)
+from_bytes source (NotBuilt span) short none r = absurd (text_or_bytes source r.1.parsed.cut.text none)
 from_bytes source Memory short none r = absurd r
 
 from_lexer : (source : List ℕ) (fault : LexFault) (b : Refusal) → IsText source → lexed source ≡ Err fault → IsRefused source b → Lex fault ≡ b
@@ -111,7 +134,8 @@ from_lexer source fault (SourceTooLong bytes) text is r = let short = text.short
 from_lexer source fault (NotUtf8 at) text is r = absurd (text_or_bytes source text r.1)
 from_lexer source fault (Lex other) text is r = ap (λ (f : LexFault). Lex f) (fault_same fault other (sym is ∙ r.1))
 from_lexer source fault (Parse other) text is r = absurd (tokens_or_fault source r.0 fault r.1 is)
-from_lexer source fault (NotBuilt span) text is r = absurd (tokens_or_fault source r.1.tokens fault r.1.cut is)
+from_lexer source fault (Name other) text is r = absurd (tokens_or_fault source r.1.tokens fault r.1.cut is)
+from_lexer source fault (NotBuilt span) text is r = absurd (tokens_or_fault source r.1.parsed.tokens fault r.1.parsed.cut is)
 from_lexer source fault Memory text is r = absurd r
 
 deep_same : (a b : DepthRule × Span) → Some a ≡ Some b → a ≡ b
@@ -135,22 +159,39 @@ from_parser source tokens fault (Lex other) cut is r = absurd (tokens_or_fault s
 from_parser source tokens fault (Parse other) cut is r =
     let P : List Token → Type 0 = λ ts. IsFaultOf (lexemes source ts) (length ts) other in
     faults_same (lexemes source tokens) (length tokens) fault other is (subst P (one_tokens source r.0 tokens r.1 cut) r.2)
-from_parser source tokens fault (NotBuilt span) cut is r = absurd (tree_or_fault source r.0 tokens (length tokens) fault r.1 cut is)
+from_parser source tokens fault (Name other) cut is r = absurd (tree_or_fault source r.0 tokens (length tokens) fault r.1 cut is)
+from_parser source tokens fault (NotBuilt span) cut is r = absurd (tree_or_fault source r.1.tree tokens (length tokens) fault r.1.parsed cut is)
 from_parser source tokens fault Memory cut is r = absurd r
 
-from_form : OneTree → (source : List ℕ) (tree : Tree) (b : Refusal) → HasTree source tree → first_form source tree ≡ None → IsRefused source b → NotBuilt tree.span ≡ b
-from_form law source tree (SourceTooLong bytes) h none r = let short = h.cut.text.short in let long = r.0 in absurd (omega arith)
-from_form law source tree (NotUtf8 at) h none r = absurd (text_or_bytes source h.cut.text r.1)
-from_form law source tree (Lex fault) h none r = absurd (tokens_or_fault source h.tokens fault h.cut r.1)
-from_form law source tree (Parse fault) h none r = absurd (tree_or_fault source tree r.0 (length r.0) fault h r.1 r.2)
-from_form law source tree (NotBuilt span) h none r =
-    ap (λ (t : Tree). NotBuilt t.span) (one_tree_of law source tree r.0 h r.1) ∙ ap (λ (s : Span). NotBuilt s) (sym r.3)
-from_form law source tree Memory h none r = absurd r
+refused_same : (a b : NameFault) → Some a ≡ Some b → a ≡ b
+refused_same a b same = cc
 
-pub one_refusal_is : OneTree → (source : List ℕ) (a b : Refusal) → IsRefused source a → IsRefused source b → AreSame a b
-one_refusal_is law source (SourceTooLong bytes) b h k = ap (λ (n : ℕ). SourceTooLong n) h.1 ∙ from_long source b h.0 k
-one_refusal_is law source (NotUtf8 at) b h k = ap (λ (n : ℕ). NotUtf8 n) h.2 ∙ from_bytes source b h.0 h.1 k
-one_refusal_is law source (Lex fault) b h k = from_lexer source fault b h.0 h.1 k
-one_refusal_is law source (Parse fault) b h k = from_parser source h.0 fault b h.1 h.2 k
-one_refusal_is law source (NotBuilt span) b h k = ap (λ (s : Span). NotBuilt s) h.3 ∙ from_form law source h.0 b h.1 h.2 k
-one_refusal_is law source Memory b h k = absurd h
+from_names : Laws → (source : List ℕ) (tree : Tree) (fault : NameFault) (b : Refusal) → HasTree source tree → first_name_fault source tree ≡ Some fault → IsRefused source b → Name fault ≡ b
+from_names laws source tree fault (SourceTooLong bytes) h is r = let short = h.cut.text.short in let long = r.0 in absurd (omega arith)
+from_names laws source tree fault (NotUtf8 at) h is r = absurd (text_or_bytes source h.cut.text r.1)
+from_names laws source tree fault (Lex other) h is r = absurd (tokens_or_fault source h.tokens other h.cut r.1)
+from_names laws source tree fault (Parse other) h is r = absurd (tree_or_fault source tree r.0 (length r.0) other h r.1 r.2)
+from_names laws source tree fault (Name other) h is r =
+    let same = ap (λ (t : Tree). first_name_fault source t) (one_tree_of laws.tree source tree r.0 h r.1) in
+    ap (λ (f : NameFault). Name f) (refused_same fault other (sym is ∙ same ∙ r.2))
+from_names laws source tree fault (NotBuilt span) h is r = absurd (named_or_fault laws source tree r.0 fault r.1 h is)
+from_names laws source tree fault Memory h is r = absurd r
+
+from_form : Laws → (source : List ℕ) (named : NamedTree) (b : Refusal) → HasNames source named → first_form named ≡ None → IsRefused source b → NotBuilt named.span ≡ b
+from_form laws source named (SourceTooLong bytes) h none r = let short = h.parsed.cut.text.short in let long = r.0 in absurd (omega arith)
+from_form laws source named (NotUtf8 at) h none r = absurd (text_or_bytes source h.parsed.cut.text r.1)
+from_form laws source named (Lex fault) h none r = absurd (tokens_or_fault source h.parsed.tokens fault h.parsed.cut r.1)
+from_form laws source named (Parse fault) h none r = absurd (tree_or_fault source h.tree r.0 (length r.0) fault h.parsed r.1 r.2)
+from_form laws source named (Name fault) h none r = absurd (named_or_fault laws source r.0 named fault h r.1 r.2)
+from_form laws source named (NotBuilt span) h none r =
+    ap (λ (t : NamedTree). NotBuilt t.span) (one_named_of laws source named r.0 h r.1) ∙ ap (λ (s : Span). NotBuilt s) (sym r.3)
+from_form laws source named Memory h none r = absurd r
+
+pub one_refusal_is : Laws → (source : List ℕ) (a b : Refusal) → IsRefused source a → IsRefused source b → AreSame a b
+one_refusal_is laws source (SourceTooLong bytes) b h k = ap (λ (n : ℕ). SourceTooLong n) h.1 ∙ from_long source b h.0 k
+one_refusal_is laws source (NotUtf8 at) b h k = ap (λ (n : ℕ). NotUtf8 n) h.2 ∙ from_bytes source b h.0 h.1 k
+one_refusal_is laws source (Lex fault) b h k = from_lexer source fault b h.0 h.1 k
+one_refusal_is laws source (Parse fault) b h k = from_parser source h.0 fault b h.1 h.2 k
+one_refusal_is laws source (Name fault) b h k = from_names laws source h.0 fault b h.1 h.2 k
+one_refusal_is laws source (NotBuilt span) b h k = ap (λ (s : Span). NotBuilt s) h.3 ∙ from_form laws source h.0 b h.1 h.2 k
+one_refusal_is laws source Memory b h k = absurd h

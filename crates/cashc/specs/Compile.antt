@@ -14,10 +14,12 @@ use Rattle.cash_parser.specs.Lexemes.{Lexeme, lexemes}
 use Rattle.cash_parser.specs.DepthRules.{deepest_token}
 use Rattle.cash_parser.specs.Files.{Tree, SpellsFile}
 use Rattle.cash_parser.specs.Answer.{IsNone}
+use Rattle.cash_names.specs.Outline.{NamedTree}
+use Rattle.cash_names.specs.Scopes.{IsNamed, first_name_fault}
 use Rattle.script_codec.specs.declared.instr.Instr.{Instr}
 use Rattle.script_codec.specs.Spelling.{are_instructions}
 use Rattle.cashc.specs.declared.refusal.Refusal.{Refusal}
-use Rattle.cashc.specs.declared.refusal.Refusal.TheVariants.{SourceTooLong, NotUtf8, Lex, Parse, NotBuilt, Memory}
+use Rattle.cashc.specs.declared.refusal.Refusal.TheVariants.{SourceTooLong, NotUtf8, Lex, Parse, Name, NotBuilt, Memory}
 use Rattle.cashc.specs.Form.{first_form}
 use Rattle.cashc.specs.Decides.{DecidesByRun}
 
@@ -44,11 +46,17 @@ pub record HasTree (source : List ℕ) (tree : Tree) : Type 0 where
   pub shallow : deepest_token (lexemes source tokens) ≡ None
   pub spelled : SpellsFile (lexemes source tokens) tree
 
--- ... which is of the form that is built so far, and stands for this contract
-pub record IsAccepted (source : List ℕ) (contract : Contract Slot Ty) : Type 0 where
+-- ... whose pragmas are met, and which this tree names: slots stand in it for names
+pub record HasNames (source : List ℕ) (named : NamedTree) : Type 0 where
   pub tree : Tree
   pub parsed : HasTree source tree
-  pub formed : first_form source tree ≡ Some contract
+  pub names : IsNamed source tree named
+
+-- ... which is of the form that is built so far, and stands for this contract
+pub record IsAccepted (source : List ℕ) (contract : Contract Slot Ty) : Type 0 where
+  pub named : NamedTree
+  pub resolved : HasNames source named
+  pub formed : first_form named ≡ Some contract
 
 -- the source stands for a contract that the code decides, and each instruction of the code has its spelling
 abbrev pub IsCompiled : List ℕ → List Instr → Type 0
@@ -68,7 +76,8 @@ IsRefused source (SourceTooLong bytes) = (max_source_len < length source) × (by
 IsRefused source (NotUtf8 at) = (length source ≤ max_source_len) × (IsUtf8 source → ⊥) × (at ≡ utf8_valid_len source)
 IsRefused source (Lex fault) = IsText source × (lexed source ≡ Err fault) × (fault ≢ lexer.Memory)
 IsRefused source (Parse fault) = (tokens : List Token) × HasTokens source tokens × IsFaultOf (lexemes source tokens) (length tokens) fault
-IsRefused source (NotBuilt span) = (tree : Tree) × HasTree source tree × (first_form source tree ≡ None) × (span ≡ tree.span)
+IsRefused source (Name fault) = (tree : Tree) × HasTree source tree × (first_name_fault source tree ≡ Some fault)
+IsRefused source (NotBuilt span) = (named : NamedTree) × HasNames source named × (first_form named ≡ None) × (span ≡ named.span)
 IsRefused source Memory = ⊥
 
 -- the same refusal, but for the token that a Syntax names

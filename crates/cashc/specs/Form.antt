@@ -1,11 +1,10 @@
--- Which trees are compiled so far, and as which contract. The source of the rules is the CashScript 0.7 grammar.
+-- Which named trees are compiled so far, and as which contract. The source of the rules is the CashScript 0.7 grammar.
 --
--- The form: no pragma and no parameter of the constructor; one function with at most 16 parameters, each an int, whose
--- names differ; its body requires that two operands are equal. An operand is the name of a parameter, or a number of at
--- most 16, its unit counted in.
-use Rattle.std.specs.Prelude.{◌≡◌, ℕ, ◌+◌, ◌*◌, ◌<◌, ◌≤◌, ◌==◌, nat_le, Bool, true, false, ◌&&◌, ◌⊎◌, List, [], ◌∷◌, length, Option, Some, None, is_none, option_map, if◌then◌else◌}
-use Rattle.std.specs.List.{position_from, list_all}
-use Rattle.std.specs.Str.{bytes_eq}
+-- The form: no parameter of the constructor; one function with at most 16 parameters, each an int, in the slots from 0
+-- in order; its body requires that two operands are equal. An operand is the slot of a parameter, or a number of at most
+-- 16, its unit counted in. Pragmas and names were judged before.
+use Rattle.std.specs.Prelude.{◌≡◌, ℕ, ◌+◌, ◌*◌, ◌<◌, ◌≤◌, ◌==◌, nat_le, nat_lt, Bool, true, false, ◌&&◌, ◌⊎◌, List, [], ◌∷◌, length, Option, Some, None, option_map, if◌then◌else◌}
+use Rattle.std.specs.List.{list_all}
 use Rattle.cash_base.specs.declared.place.Span.{Span}
 use Rattle.cash_base.specs.declared.place.Slot.{Slot}
 use Rattle.cash_tree.specs.declared.Ty.{Ty}
@@ -21,10 +20,8 @@ use Rattle.cash_tree.specs.declared.ExprKind.{ExprKind, out-ExprKind}
 use Rattle.cash_tree.specs.declared.ExprKind.TheVariants as nodes
 use Rattle.cash_tree.specs.declared.ExprKind.TheOpen.{ExprKind-F}
 use Rattle.cash_tree.specs.declared.BinaryOp.TheVariants.{Equal}
-use Rattle.cash_parser.specs.Lexemes.{text_at}
-use Rattle.cash_parser.specs.Grammar.{Expression, Kind}
-use Rattle.cash_parser.specs.Statements.{Statement}
-use Rattle.cash_parser.specs.Files.{Tree, FunctionTree}
+use Rattle.cash_names.specs.Expressions.{NamedExpr, NamedKind}
+use Rattle.cash_names.specs.Outline.{NamedStmt, NamedFunction, NamedTree}
 
 infixl 10 ◌>>=◌
 abbrev pub ◌>>=◌ : {A B : Type 0} → Option A → (A → Option B) → Option B
@@ -35,11 +32,11 @@ None >>= f = None
 
 -- the parts of a tree of the form
 pub record Parts : Type 0 where
-  pub function : FunctionTree
-  pub statement : Statement
-  pub value : Expression
-  pub left : Expression
-  pub right : Expression
+  pub function : NamedFunction
+  pub statement : NamedStmt
+  pub value : NamedExpr
+  pub left : NamedExpr
+  pub right : NamedExpr
 
 -- the item of a list that has one
 abbrev pub only : {A : Type 0} → List A → Option A
@@ -48,19 +45,19 @@ only (x ∷ []) = Some x
 only (x ∷ y ∷ more) = None
 
 -- what a statement requires
-abbrev pub required : StmtKind Span (Unit {0}) → Option Expression
+abbrev pub required : StmtKind Slot (Unit {0}) → Option NamedExpr
 required (statements.Require value) = Some value
 required _ = None
 
 -- a kind of expression, open to its cases
 abbrev pub Open : Type 0
-Open = ExprKind-F Span (Unit {0}) Kind Expression
+Open = ExprKind-F Slot (Unit {0}) NamedKind NamedExpr
 
-abbrev pub opened : Kind → Open
-opened kind = out-ExprKind Span (Unit {0}) kind
+abbrev pub opened : NamedKind → Open
+opened kind = out-ExprKind Slot (Unit {0}) kind
 
 -- the two sides of an equality
-abbrev pub equated : Open → Option (Expression × Expression)
+abbrev pub equated : Open → Option (NamedExpr × NamedExpr)
 equated (ExprKind-F.Binary Equal left right) = Some (left, right)
 equated _ = None
 
@@ -68,66 +65,58 @@ abbrev pub is_int : Ty → Bool
 is_int types.Int = true
 is_int _ = false
 
-abbrev pub are_ints : List (Param Span) → Bool
-are_ints params = list_all (λ (param : Param Span). is_int param.ty) params
+abbrev pub are_ints : List (Param Slot) → Bool
+are_ints params = list_all (λ (param : Param Slot). is_int param.ty) params
 
--- at most 16 parameters, each an int
-unfoldable pub are_few_ints : List (Param Span) → Bool
-are_few_ints params = nat_le (length params) 16 && are_ints params
+-- the parameters have the slots from k on, in order
+unfoldable pub are_in_slots : ℕ → List (Param Slot) → Bool
+are_in_slots k [] = true
+are_in_slots k (param ∷ params) = (param.name.0 == k) && are_in_slots (k + 1) params
 
--- no pragma, and no parameter of the constructor
-abbrev pub is_bare : Tree → Bool
-is_bare tree = (length tree.pragmas == 0) && (length tree.params == 0)
+-- at most 16 parameters, each an int, in the slots from 0 (a named tree's are so always)
+unfoldable pub are_few_ints : List (Param Slot) → Bool
+are_few_ints params = nat_le (length params) 16 && (are_ints params && are_in_slots 0 params)
 
 -- the equality that the one function of a tree requires
-unfoldable pub equality_in : Tree → Option Parts
+unfoldable pub equality_in : NamedTree → Option Parts
 equality_in tree = do
   function ← only tree.functions
   statement ← only function.body
   value ← required statement.kind
   sides ← equated (opened value.kind)
-  if is_bare tree && are_few_ints function.params
+  if (length tree.params == 0) && are_few_ints function.params
       then Some (record { function = function; statement = statement; value = value; left = sides.0; right = sides.1 })
       else None
 
--- ---- its names
-
--- where a text stands among the names of parameters
-unfoldable pub place_of : List ℕ → List ℕ → List (Param Span) → Option ℕ
-place_of source text params = position_from (λ (param : Param Span). bytes_eq (text_at source param.name) text) 0 params
-
--- no two names are the same
-unfoldable pub all_differ : List ℕ → List (Param Span) → Bool
-all_differ source [] = true
-all_differ source (param ∷ params) = is_none (place_of source (text_at source param.name) params) && all_differ source params
+-- ---- its operands
 
 abbrev pub slot : ℕ → Slot
 slot k = record { 0 = k }
 
--- the name of a parameter, or a number of at most 16
-unfoldable pub operand_kind : List ℕ → List (Param Span) → Open → Option (ExprKind Slot Ty)
-operand_kind source params (ExprKind-F.Name name) = option_map (λ k. nodes.Name (slot k)) (place_of source (text_at source name) params)
-operand_kind source params (ExprKind-F.Int digits unit) = if nat_le (digits * unit) 16 then Some (nodes.Int digits unit) else None
-operand_kind source params _ = None
+-- one of so many parameters, or a number of at most 16
+unfoldable pub operand_kind : ℕ → Open → Option (ExprKind Slot Ty)
+operand_kind count (ExprKind-F.Name name) = if nat_lt name.0 count then Some (nodes.Name name) else None
+operand_kind count (ExprKind-F.Int digits unit) = if nat_le (digits * unit) 16 then Some (nodes.Int digits unit) else None
+operand_kind count _ = None
 
 abbrev pub operand_of : Span → ExprKind Slot Ty → Expr Slot Ty
 operand_of span kind = record { kind = kind; ty = types.Int; span = span }
 
-unfoldable pub operand : List ℕ → List (Param Span) → Expression → Option (Expr Slot Ty)
-operand source params e = option_map (operand_of e.span) (operand_kind source params (opened e.kind))
+unfoldable pub operand : ℕ → NamedExpr → Option (Expr Slot Ty)
+operand count e = option_map (operand_of e.span) (operand_kind count (opened e.kind))
 
--- the equality of a tree of the form, whose operands name the slots of the parameters with their texts
-unfoldable pub named : List ℕ → Tree → Option (Parts × Expr Slot Ty × Expr Slot Ty)
-named source tree = do
+-- the equality of a tree of the form, with its operands
+unfoldable pub compared : NamedTree → Option (Parts × Expr Slot Ty × Expr Slot Ty)
+compared tree = do
   e ← equality_in tree
-  left ← operand source e.function.params e.left
-  right ← operand source e.function.params e.right
-  if all_differ source e.function.params then Some (e, left, right) else None
+  left ← operand (length e.function.params) e.left
+  right ← operand (length e.function.params) e.right
+  Some (e, left, right)
 
 -- ---- the contract, whose spans are those of the tree
 
 -- the parameters have the slots from k on, in order
-abbrev pub params_from : ℕ → List (Param Span) → List (Param Slot)
+abbrev pub params_from : ℕ → List (Param Slot) → List (Param Slot)
 params_from k [] = []
 params_from k (param ∷ params) = record { ty = types.Int; name = slot k; place = param.place } ∷ params_from (k + 1) params
 
@@ -137,11 +126,11 @@ value_of span left right = record { kind = nodes.Binary Equal left right; ty = t
 unfoldable pub statement_of : Span → Expr Slot Ty → Stmt Slot Ty
 statement_of span value = record { kind = statements.Require value; span = span }
 
-unfoldable pub function_of : Span → Span → List (Param Span) → List (Stmt Slot Ty) → Function Slot Ty
+unfoldable pub function_of : Span → Span → List (Param Slot) → List (Stmt Slot Ty) → Function Slot Ty
 function_of name span params body = record { name = name; span = span; params = params_from 0 params; body = body }
 
-unfoldable pub contract_of : Tree → Function Slot Ty → Contract Slot Ty
-contract_of tree function = record { name = tree.name; span = tree.span; pragmas = []; params = []; functions = function ∷ [] }
+unfoldable pub contract_of : NamedTree → Function Slot Ty → Contract Slot Ty
+contract_of tree function = record { name = tree.name; span = tree.span; pragmas = tree.pragmas; params = []; functions = function ∷ [] }
 
 -- the function of an equality, whose operands are these
 abbrev pub formed : Parts × Expr Slot Ty × Expr Slot Ty → Function Slot Ty
@@ -149,9 +138,9 @@ formed x = function_of x.0.function.name x.0.function.span x.0.function.params
     (statement_of x.0.statement.span (value_of x.0.value.span x.1 x.2) ∷ [])
 
 -- the contract that a tree of the form stands for
-unfoldable pub first_form : List ℕ → Tree → Option (Contract Slot Ty)
-first_form source tree = do
-  x ← named source tree
+unfoldable pub first_form : NamedTree → Option (Contract Slot Ty)
+first_form tree = do
+  x ← compared tree
   Some (contract_of tree (formed x))
 
 -- ---- the shape of the contract

@@ -7,8 +7,10 @@ use Rattle.cash_lexer.specs.declared.fault.LexFault.TheVariants as lexer
 use Rattle.cash_lexer.specs.Tokens.{lexed}
 use Rattle.cash_parser.specs.declared.fault.ParseFault.{ParseFault}
 use Rattle.cash_parser.specs.declared.fault.ParseFault.TheVariants as parser
+use Rattle.cash_names.specs.declared.fault.NameFault.{NameFault}
+use Rattle.cash_names.specs.declared.fault.NameFault.TheVariants as names
 use Rattle.cashc.specs.declared.refusal.Refusal.{Refusal}
-use Rattle.cashc.specs.declared.refusal.Refusal.TheVariants.{SourceTooLong, NotUtf8, Lex, Parse, NotBuilt, Memory}
+use Rattle.cashc.specs.declared.refusal.Refusal.TheVariants.{SourceTooLong, NotUtf8, Lex, Parse, Name, NotBuilt, Memory}
 use Rattle.cashc.specs.SpanMap.{line_col}
 
 -- ---- places
@@ -55,11 +57,21 @@ parse_text source (parser.TooDeep rule span) = at_place source span.from (codes 
 parse_text source (parser.Syntax token) = at_place source (token_start source token) (codes "Syntax")
 parse_text source parser.Memory = out_of_memory
 
+abbrev pub name_text : List ℕ → NameFault → List ℕ
+name_text source (names.PragmaRefused span) = at_place source span.from (codes "PragmaRefused")
+name_text source (names.UnknownName span) = at_place source span.from (codes "UnknownName")
+name_text source (names.Redeclared span) = at_place source span.from (codes "Redeclared")
+name_text source (names.AssignToConstant span) = at_place source span.from (codes "AssignToConstant")
+name_text source (names.TooManyNames span) = at_place source span.from (codes "TooManyNames")
+name_text source (names.NoFunction span) = at_place source span.from (codes "NoFunction")
+name_text source names.Memory = out_of_memory
+
 -- the line that refuses a source
 abbrev pub refusal_text : List ℕ → Refusal → List ℕ
 refusal_text source (SourceTooLong bytes) = source_too_long
 refusal_text source (NotUtf8 at) = codes "refused NotUtf8 " ++ decimal at ++ codes "\n"
 refusal_text source (Lex fault) = lex_text source fault
 refusal_text source (Parse fault) = parse_text source fault
+refusal_text source (Name fault) = name_text source fault
 refusal_text source (NotBuilt span) = at_place source span.from (codes "NotBuilt")
 refusal_text source Memory = out_of_memory

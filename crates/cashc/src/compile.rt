@@ -10,8 +10,9 @@ ghost use Rattle.cashc.specs.Compile.{IsAccepted, IsCompiled, IsRefused, AreSame
 
 use crate::emission::emit;
 use crate::form::first_form;
-use crate::reading::tree_of;
+use crate::reading::named_tree_of;
 use crate::refusal::Refusal;
+use cash_names::one_answer;
 use cash_parser::one_tree;
 use script_codec::Instr;
 use std::alloc::Global;
@@ -20,16 +21,16 @@ use std::alloc::Global;
 ///
 /// Run by the machine on any argument elements, it decides the contract as a run of the source does. Each refusal comes
 /// exactly where its cause stands in the source, in the order of [`Refusal`]: the length, UTF-8, the tokens, how deep
-/// they nest, the tree, and the form that is built so far. Memory may be wanting at any time.
+/// they nest, the tree, its pragmas and names, and the form that is built so far. Memory may be wanting at any time.
 #[tactic(auto, using(crate::proofs::Accepted::equality_emittable))]
 pub fn compile(alloc: Global, source: &[u8]) -> Result<Vec<Instr>, Refusal>
     requires { length source.now < 2 ^ 32 }
     ensures compiled { IfOk result (λ code. IsCompiled source.now code.items) }
     ensures refused { IfErr result (λ refusal. refusal ≢ Memory → IsRefused source.now refusal) }
 {
-    let tree = tree_of(alloc, source)?;
-    let Some(contract) = first_form(alloc, source, &tree)? else {
-        return Err(Refusal::NotBuilt { span: tree.span });
+    let named = named_tree_of(alloc, source)?;
+    let Some(contract) = first_form(alloc, &named)? else {
+        return Err(Refusal::NotBuilt { span: named.span });
     };
     Ok(emit(alloc, &contract)?)
 }
@@ -40,6 +41,7 @@ pub fn one_contract()
         IsAccepted source a → IsAccepted source b → a ≡ b }
 {
     one_tree();
+    one_answer();
 }
 
 /// A source is accepted or refused, and not both; and it is refused in one way only, but for the token that a Syntax
@@ -51,4 +53,5 @@ pub fn one_way()
         IsRefused source a → IsRefused source b → AreSame a b }
 {
     one_tree();
+    one_answer();
 }

@@ -1,14 +1,14 @@
-//! The form of contract that is built so far, read on the tree.
+//! The form of contract that is built so far, read on the named tree.
 
-ghost use Rattle.std.specs.Prelude.{◌≡◌, ◌≤◌, ◌<◌, ◌∷◌, [], ℕ, length, option_map, IfOk, IfSome, IsTrue};
-ghost use Rattle.cash_parser.specs.Lexemes;
+ghost use Rattle.std.specs.Prelude.{◌≡◌, ◌≤◌, ◌+◌, ◌∷◌, [], ℕ, length, option_map, IfOk, IfSome, IsTrue};
 ghost use Rattle.cashc.specs.Form;
 ghost use Rattle.cashc.specs.Form.{IsEquality};
 ghost use Rattle.cashc.specs.Seen.{seen};
 
 use cash_base::{Memory, Slot, Span};
 use cash_tree::{
-    BinaryOp, Contract, Expr, ExprKind, Function, Param, Stmt, StmtKind, Tree, Ty, TypedContract,
+    BinaryOp, Contract, Expr, ExprKind, Function, NamedTree, Param, Stmt, StmtKind, Ty,
+    TypedContract,
 };
 use sqlite_items::{Boxed, Items};
 use std::alloc::{AllocError, Global};
@@ -16,11 +16,11 @@ use std::alloc::{AllocError, Global};
 /// The parts of a tree of the form.
 #[derive(Clone, Copy)]
 pub struct Equality<'t> {
-    pub function: &'t Function<Span, ()>,
-    pub statement: &'t Stmt<Span, ()>,
-    pub value: &'t Expr<Span, ()>,
-    pub left: &'t Expr<Span, ()>,
-    pub right: &'t Expr<Span, ()>,
+    pub function: &'t Function<Slot, ()>,
+    pub statement: &'t Stmt<Slot, ()>,
+    pub value: &'t Expr<Slot, ()>,
+    pub left: &'t Expr<Slot, ()>,
+    pub right: &'t Expr<Slot, ()>,
 }
 
 /// The item of a list that has one.
@@ -34,7 +34,7 @@ fn only<T>(items: &[T]) -> Option<&T>
 }
 
 /// What a statement requires.
-fn required(statement: &Stmt<Span, ()>) -> Option<&Expr<Span, ()>>
+fn required(statement: &Stmt<Slot, ()>) -> Option<&Expr<Slot, ()>>
     ensures { option_map (λ value. value.now) result ≡ Form.required statement.now.kind }
 {
     match &statement.kind {
@@ -44,7 +44,7 @@ fn required(statement: &Stmt<Span, ()>) -> Option<&Expr<Span, ()>>
 }
 
 /// The two sides of an equality.
-fn equated(value: &Expr<Span, ()>) -> Option<(&Expr<Span, ()>, &Expr<Span, ()>)>
+fn equated(value: &Expr<Slot, ()>) -> Option<(&Expr<Slot, ()>, &Expr<Slot, ()>)>
     ensures { option_map (λ sides. (sides.0.now, sides.1.now)) result ≡ Form.equated (Form.opened value.now.kind) }
 {
     match &value.kind {
@@ -59,24 +59,40 @@ fn is_int(ty: &Ty) -> bool
     matches!(ty, Ty::Int)
 }
 
-fn are_ints(params: &[Param<Span>]) -> bool
+fn are_ints(params: &[Param<Slot>]) -> bool
     ensures { result ≡ Form.are_ints params.now }
 {
     params.iter().all(|param| is_int(&param.ty))
 }
 
-/// Whether there are at most 16 parameters, each an int.
+/// Whether the parameters have the slots from this one on, in order.
+#[tactic(auto, unfolding(crate::specs::Form::are_in_slots))]
+fn are_in_slots(from: usize, params: &[Param<Slot>]) -> bool
+    requires { from + length params.now ≤ 16 }
+    ensures { result ≡ Form.are_in_slots from params.now }
+{
+    match params {
+        [] => true,
+        [param, others @ ..] => {
+            usize::from(param.name.0) == from && are_in_slots(from + 1, others)
+        }
+    }
+}
+
+/// Whether there are at most 16 parameters, each an int, in the slots from 0.
+///
+/// The slots of a named tree are so always. The test stands here so that what the emitter asks is seen from the form.
 #[tactic(auto, unfolding(crate::specs::Form::are_few_ints))]
-fn are_few_ints(params: &[Param<Span>]) -> bool
+fn are_few_ints(params: &[Param<Slot>]) -> bool
     ensures value { result ≡ Form.are_few_ints params.now }
     ensures few { IsTrue result → length params.now ≤ 16 }
 {
-    params.len() <= 16 && are_ints(params)
+    params.len() <= 16 && (are_ints(params) && are_in_slots(0, params))
 }
 
 /// The equality that the one function of a tree requires, where the tree is of the form but for its names.
 #[tactic(auto, unfolding(crate::specs::Form::equality_in))]
-fn equality_in(tree: &Tree) -> Option<Equality<'_>>
+fn equality_in(tree: &NamedTree) -> Option<Equality<'_>>
     ensures value { option_map seen result ≡ Form.equality_in tree.now }
     ensures few { IfSome result (λ equality. length equality.function.now.params ≤ 16) }
 {
@@ -84,8 +100,7 @@ fn equality_in(tree: &Tree) -> Option<Equality<'_>>
     let statement = only(function.body.as_slice())?;
     let value = required(statement)?;
     let (left, right) = equated(value)?;
-    let is_bare = tree.pragmas.is_empty() && tree.params.is_empty();
-    if is_bare && are_few_ints(function.params.as_slice()) {
+    if tree.params.is_empty() && are_few_ints(function.params.as_slice()) {
         Some(Equality {
             function,
             statement,
@@ -98,55 +113,13 @@ fn equality_in(tree: &Tree) -> Option<Equality<'_>>
     }
 }
 
-/// The text of a source at a span.
-fn text_at(source: &[u8], span: Span) -> &[u8]
-    ensures { result.now ≡ Lexemes.text_at source.now span }
-{
-    let rest = source.get(span.from as usize..).unwrap_or(&[]);
-    let len = span.to.saturating_sub(span.from) as usize;
-    rest.get(..len).unwrap_or(rest)
-}
-
-/// Where a text stands among the names of parameters.
-#[tactic(auto, unfolding(crate::specs::Form::place_of))]
-fn place_of(source: &[u8], text: &[u8], params: &[Param<Span>]) -> Option<usize>
-    ensures value { result ≡ Form.place_of source.now text.now params.now }
-    ensures within { IfSome result (λ i. i < length params.now) }
-{
-    params
-        .iter()
-        .position(|param| text_at(source, param.name) == text)
-}
-
-/// Whether no two names are the same.
-#[tactic(auto, unfolding(crate::specs::Form::all_differ))]
-fn all_differ(source: &[u8], params: &[Param<Span>]) -> bool
-    ensures { result ≡ Form.all_differ source.now params.now }
-{
-    match params {
-        [] => true,
-        [param, others @ ..] => {
-            place_of(source, text_at(source, param.name), others).is_none()
-                && all_differ(source, others)
-        }
-    }
-}
-
-/// The name of a parameter, or a number of at most 16.
+/// One of so many parameters, or a number of at most 16.
 #[tactic(auto, unfolding(crate::specs::Form::operand_kind))]
-fn operand_kind(
-    source: &[u8],
-    params: &[Param<Span>],
-    kind: &ExprKind<Span, ()>,
-) -> Option<ExprKind<Slot, Ty>>
-    requires { length params.now ≤ 16 }
-    ensures { result ≡ Form.operand_kind source.now params.now (Form.opened kind.now) }
+fn operand_kind(count: usize, kind: &ExprKind<Slot, ()>) -> Option<ExprKind<Slot, Ty>>
+    ensures { result ≡ Form.operand_kind count (Form.opened kind.now) }
 {
     match kind {
-        ExprKind::Name(name) => {
-            let place = place_of(source, text_at(source, *name), params)?;
-            Some(ExprKind::Name(Slot(place as u16)))
-        }
+        ExprKind::Name(slot) if usize::from(slot.0) < count => Some(ExprKind::Name(*slot)),
         ExprKind::Int { digits, unit } => match digits.checked_mul(u128::from(*unit)) {
             Some(value) if value <= 16 => Some(ExprKind::Int {
                 digits: *digits,
@@ -159,11 +132,10 @@ fn operand_kind(
 }
 
 #[tactic(auto, unfolding(crate::specs::Form::operand))]
-fn operand(source: &[u8], params: &[Param<Span>], e: &Expr<Span, ()>) -> Option<Expr<Slot, Ty>>
-    requires { length params.now ≤ 16 }
-    ensures { result ≡ Form.operand source.now params.now e.now }
+fn operand(count: usize, e: &Expr<Slot, ()>) -> Option<Expr<Slot, Ty>>
+    ensures { result ≡ Form.operand count e.now }
 {
-    let kind = operand_kind(source, params, &e.kind)?;
+    let kind = operand_kind(count, &e.kind)?;
     Some(Expr {
         kind,
         ty: Ty::Int,
@@ -172,7 +144,7 @@ fn operand(source: &[u8], params: &[Param<Span>], e: &Expr<Span, ()>) -> Option<
 }
 
 /// The parameters in the slots from 0.
-fn in_slots(alloc: Global, params: &[Param<Span>]) -> Result<Items<Param<Slot>>, AllocError>
+fn in_slots(alloc: Global, params: &[Param<Slot>]) -> Result<Items<Param<Slot>>, AllocError>
     requires { length params.now ≤ 16 }
     ensures { IfOk result (λ items. items ≡ Form.params_from 0 params.now) }
 {
@@ -247,7 +219,7 @@ fn function_of(
     alloc: Global,
     name: Span,
     span: Span,
-    params: &[Param<Span>],
+    params: &[Param<Slot>],
     body: Items<Stmt<Slot, Ty>>,
 ) -> Result<Function<Slot, Ty>, AllocError>
     requires { length params.now ≤ 16 }
@@ -266,7 +238,7 @@ fn function_of(
 #[tactic(auto, unfolding(crate::specs::Form::contract_of))]
 fn contract_of(
     alloc: Global,
-    tree: &Tree,
+    tree: &NamedTree,
     function: Function<Slot, Ty>,
 ) -> Result<TypedContract, AllocError>
     ensures { IfOk result (λ contract. contract ≡ Form.contract_of tree.now function) }
@@ -274,7 +246,7 @@ fn contract_of(
     Ok(Contract {
         name: tree.name,
         span: tree.span,
-        pragmas: Items::new(alloc),
+        pragmas: Items::from_slice(alloc, tree.pragmas.as_slice())?,
         params: Items::new(alloc),
         functions: one(alloc, function)?,
     })
@@ -283,7 +255,7 @@ fn contract_of(
 /// The contract of an equality with these operands.
 fn built(
     alloc: Global,
-    tree: &Tree,
+    tree: &NamedTree,
     equality: Equality<'_>,
     left: Expr<Slot, Ty>,
     right: Expr<Slot, Ty>,
@@ -301,47 +273,36 @@ fn built(
 }
 
 /// The equality of a tree of the form, with its operands.
-#[tactic(auto, unfolding(crate::specs::Form::named))]
-fn named<'t>(
-    source: &[u8],
-    tree: &'t Tree,
-) -> Option<(Equality<'t>, Expr<Slot, Ty>, Expr<Slot, Ty>)>
-    ensures value { option_map (λ x. (seen x.0, x.1, x.2)) result ≡ Form.named source.now tree.now }
+#[tactic(auto, unfolding(crate::specs::Form::compared))]
+fn compared(tree: &NamedTree) -> Option<(Equality<'_>, Expr<Slot, Ty>, Expr<Slot, Ty>)>
+    ensures value { option_map (λ x. (seen x.0, x.1, x.2)) result ≡ Form.compared tree.now }
     ensures few { IfSome result (λ x. length x.0.function.now.params ≤ 16) }
 {
     let equality = equality_in(tree)?;
-    let params = equality.function.params.as_slice();
-    let left = operand(source, params, equality.left)?;
-    let right = operand(source, params, equality.right)?;
-    if all_differ(source, params) {
-        Some((equality, left, right))
-    } else {
-        None
-    }
+    let count = equality.function.params.len();
+    let left = operand(count, equality.left)?;
+    let right = operand(count, equality.right)?;
+    Some((equality, left, right))
 }
 
-/// The contract that a tree of the form stands for, or `None` where it isn't of the form.
+/// The contract that a named tree of the form stands for, or `None` where it isn't of the form.
 ///
-/// The form: no pragma and no parameter of the constructor; one function with at most 16 parameters, each an `int`, whose
-/// names differ by their texts; its body is one `require` of `==` over two operands. An operand is the name of a
+/// The form: any pragmas, and no parameter of the constructor; one function with at most 16 parameters, each an `int`,
+/// in the slots from 0 in order; its body is one `require` of `==` over two operands. An operand is the slot of a
 /// parameter, or a number of at most 16, its unit counted in.
 ///
-/// The parameters have the slots from 0 in their order and the type Int, as the operands have; the comparison has the
-/// type Bool. Spans are those of the tree.
+/// The parameters and the operands have the type Int; the comparison has the type Bool. Spans, slots and pragmas are
+/// those of the tree.
 ///
 /// # Errors
 ///
 /// `Memory`, where memory ran out.
 #[tactic(auto, unfolding(crate::specs::Form::first_form))]
-pub fn first_form(
-    alloc: Global,
-    source: &[u8],
-    tree: &Tree,
-) -> Result<Option<TypedContract>, Memory>
-    ensures found { IfOk result (λ contract. contract ≡ Form.first_form source.now tree.now) }
+pub fn first_form(alloc: Global, tree: &NamedTree) -> Result<Option<TypedContract>, Memory>
+    ensures found { IfOk result (λ contract. contract ≡ Form.first_form tree.now) }
     ensures built { IfOk result (λ contract. IfSome contract IsEquality) }
 {
-    let Some((equality, left, right)) = named(source, tree) else {
+    let Some((equality, left, right)) = compared(tree) else {
         return Ok(None);
     };
     Ok(Some(built(alloc, tree, equality, left, right)?))

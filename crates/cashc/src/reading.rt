@@ -1,18 +1,19 @@
-//! From a source to its tree, stage by stage.
+//! From a source to its named tree, stage by stage.
 
 ghost use Rattle.std.specs.Prelude.{◌≡◌, ◌≢◌, ◌≤◌, ◌<◌, ◌^◌, length, IfOk, IfErr, IfSome};
 ghost use Rattle.cashc.specs.declared.refusal.Refusal.TheVariants.{Memory};
 ghost use Rattle.cashc.specs.Form.{IsEquality};
-ghost use Rattle.cashc.specs.Compile.{IsText, HasTokens, HasTree, IsRefused};
+ghost use Rattle.cashc.specs.Compile.{IsText, HasTokens, HasTree, HasNames, IsRefused};
 
 #[cfg(test)]
 use crate::form::first_form;
 use crate::refusal::Refusal;
 use cash_lexer::LexFault;
+use cash_names::{NameFault, resolve};
 use cash_parser::{ParseFault, parse};
 #[cfg(test)]
 use cash_tree::TypedContract;
-use cash_tree::{Token, Tree};
+use cash_tree::{NamedTree, Token, Tree};
 use std::alloc::Global;
 
 /// The most bytes of a source.
@@ -50,23 +51,37 @@ fn tokens_of(alloc: Global, text: &str) -> Result<Vec<Token>, Refusal>
     }
 }
 
-/// The tree of a source.
-///
-/// # Errors
-///
-/// The refusal of the first stage that gives nothing: `SourceTooLong`, `NotUtf8`, `Lex` and `Parse`, each exactly where
-/// its cause stands in the source, or `Memory`, where memory ran out.
-pub fn tree_of(alloc: Global, source: &[u8]) -> Result<Tree, Refusal>
-    requires { length source.now < 2 ^ 32 }
-    ensures parsed { IfOk result (λ tree. HasTree source.now tree) }
-    ensures refused { IfErr result (λ refusal. refusal ≢ Memory → IsRefused source.now refusal) }
+/// The tree of a text.
+fn tree_of(alloc: Global, text: &str) -> Result<Tree, Refusal>
+    requires { IsText text.now }
+    ensures parsed { IfOk result (λ tree. HasTree text.now tree) }
+    ensures refused { IfErr result (λ refusal. refusal ≢ Memory → IsRefused text.now refusal) }
 {
-    let text = text_of(source)?;
     let tokens = tokens_of(alloc, text)?;
     match parse(alloc, text, &tokens) {
         Ok(tree) => Ok(tree),
         Err(ParseFault::Memory) => Err(Refusal::Memory),
         Err(fault) => Err(Refusal::Parse(fault)),
+    }
+}
+
+/// The named tree of a source.
+///
+/// # Errors
+///
+/// The refusal of the first stage that gives nothing: `SourceTooLong`, `NotUtf8`, `Lex`, `Parse` and `Name`, each
+/// exactly where its cause stands in the source, or `Memory`, where memory ran out.
+pub fn named_tree_of(alloc: Global, source: &[u8]) -> Result<NamedTree, Refusal>
+    requires { length source.now < 2 ^ 32 }
+    ensures named { IfOk result (λ named. HasNames source.now named) }
+    ensures refused { IfErr result (λ refusal. refusal ≢ Memory → IsRefused source.now refusal) }
+{
+    let text = text_of(source)?;
+    let tree = tree_of(alloc, text)?;
+    match resolve(alloc, text, &tree) {
+        Ok(named) => Ok(named),
+        Err(NameFault::Memory) => Err(Refusal::Memory),
+        Err(fault) => Err(Refusal::Name(fault)),
     }
 }
 
@@ -78,6 +93,6 @@ pub fn read_contract(alloc: Global, source: &[u8]) -> Result<Option<TypedContrac
     if source.len() > MAX_SOURCE_LEN {
         return Ok(None);
     }
-    let tree = tree_of(alloc, source)?;
-    Ok(first_form(alloc, source, &tree)?)
+    let named = named_tree_of(alloc, source)?;
+    Ok(first_form(alloc, &named)?)
 }

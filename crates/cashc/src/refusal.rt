@@ -5,6 +5,7 @@ ghost use Rattle.cashc.specs.declared.refusal.Refusal.TheVariants.{Memory};
 
 use cash_base::{Memory, Span};
 use cash_lexer::LexFault;
+use cash_names::NameFault;
 use cash_parser::ParseFault;
 use std::alloc::AllocError;
 
@@ -19,6 +20,8 @@ pub enum Refusal {
     Lex(LexFault),
     /// Its tokens give no tree. The fault is never want of memory.
     Parse(ParseFault),
+    /// A pragma or a name of its tree is refused. The fault is never want of memory.
+    Name(NameFault),
     /// Its tree isn't of the form that is built so far; the span is that of the contract.
     NotBuilt { span: Span },
     /// Memory ran out.

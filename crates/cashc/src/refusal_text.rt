@@ -3,12 +3,13 @@
 ghost use Rattle.std.specs.Prelude.{◌≡◌, ◌≢◌, ◌≤◌, length, string_bytes, [], IfOk};
 ghost use Rattle.cashc.specs.Compile.{IsText, IsRefused, max_source_len};
 ghost use Rattle.cashc.specs.RefusalText;
-ghost use Rattle.cashc.specs.RefusalText.{named_at, at_place, lex_text, parse_text};
+ghost use Rattle.cashc.specs.RefusalText.{named_at, at_place, lex_text, parse_text, name_text};
 
 use crate::refusal::Refusal;
 use crate::span_map::line_col_of;
 use cash_base::Memory;
 use cash_lexer::{LexFault, tokens};
+use cash_names::NameFault;
 use cash_parser::ParseFault;
 use std::alloc::{AllocError, Global};
 
@@ -82,6 +83,22 @@ fn parse_text(alloc: Global, source: &[u8], fault: ParseFault) -> Result<String,
     Ok(at_place(alloc, source, at, name)?)
 }
 
+fn name_text(alloc: Global, source: &[u8], fault: NameFault) -> Result<String, Memory>
+    requires { length source.now ≤ max_source_len }
+    ensures { IfOk result (λ text. string_bytes text ≡ name_text source.now fault) }
+{
+    let (span, name) = match fault {
+        NameFault::PragmaRefused { span } => (span, "PragmaRefused"),
+        NameFault::UnknownName { span } => (span, "UnknownName"),
+        NameFault::Redeclared { span } => (span, "Redeclared"),
+        NameFault::AssignToConstant { span } => (span, "AssignToConstant"),
+        NameFault::TooManyNames { span } => (span, "TooManyNames"),
+        NameFault::NoFunction { span } => (span, "NoFunction"),
+        NameFault::Memory => return Err(Memory),
+    };
+    Ok(at_place(alloc, source, span.from, name)?)
+}
+
 /// The line that refuses a source.
 ///
 /// It is `refused LINE:COL NAME`, where the name is that of the innermost fault; `refused NotUtf8 AT`; or `refused
@@ -101,6 +118,7 @@ pub fn refusal_text(alloc: Global, source: &[u8], refusal: Refusal) -> Result<St
         Refusal::NotUtf8 { at } => Ok(format!(in alloc; "refused NotUtf8 {at}\n")?),
         Refusal::Lex(fault) => lex_text(alloc, source, fault),
         Refusal::Parse(fault) => parse_text(alloc, source, fault),
+        Refusal::Name(fault) => name_text(alloc, source, fault),
         Refusal::NotBuilt { span } => Ok(at_place(alloc, source, span.from, "NotBuilt")?),
         Refusal::Memory => Err(Memory),
     }

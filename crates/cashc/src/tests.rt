@@ -137,12 +137,12 @@ code|contract S() { function f() { require(0 == 16); } }
 code|contract f() { function f(int f) { require(f == 1e1); } }
 code|contract S() { function f(int sats) { require(16 sats == sats); } }
 code|contract S() { function f(int a, int b, int c, int d, int e, int f, int g, int h, int i, int j, int k, int l, int m, int n, int o, int p) { require(p == a); } }
-refused 1:1 NotBuilt|contract S() { function f(int a, int b, int c, int d, int e, int f, int g, int h, int i, int j, int k, int l, int m, int n, int o, int p, int q) { require(p == a); } }
-refused 1:1 NotBuilt|contract S() { function f(int x, int y, int x) { require(y == y); } }
+refused 1:143 TooManyNames|contract S() { function f(int a, int b, int c, int d, int e, int f, int g, int h, int i, int j, int k, int l, int m, int n, int o, int p, int q) { require(p == a); } }
+refused 1:45 Redeclared|contract S() { function f(int x, int y, int x) { require(y == y); } }
 refused 1:1 NotBuilt|contract S() { function f(int x, bool y) { require(x == 1); } }
 refused 1:1 NotBuilt|contract S(int x) { function f() { require(1 == 1); } }
-refused 2:1 NotBuilt|pragma cashscript ^0.7.0; // ~contract S() { function f() { require(1 == 1); } }
-refused 2:3 NotBuilt| // é~\t contract S() {}
+refused 2:1 NotBuilt|pragma cashscript ^0.7.0; // ~contract S() { function f() { require(1 != 1); } }
+refused 2:3 NoFunction| // é~\t contract S() {}
 refused 1:1 NotBuilt|contract S() { function f() { require(1 == 1); } function g() { require(1 == 1); } }
 refused 1:1 NotBuilt|contract S() { function f() {} }
 refused 1:1 NotBuilt|contract S() { function f() { require(1 == 1); require(1 == 1); } }
@@ -153,8 +153,16 @@ refused 1:1 NotBuilt|contract S() { function f(int x) { require(x == 17); } }
 refused 1:1 NotBuilt|contract S() { function f(int x) { require(x == 2 finney); } }
 refused 1:1 NotBuilt|contract S() { function f(int x) { require(x == -1); } }
 refused 1:1 NotBuilt|contract S() { function f(int x) { require(x == 0x01); } }
-refused 1:1 NotBuilt|contract S() { function f(int x) { require(x == y); } }
-refused 1:1 NotBuilt|contract S() { function f(int x) { require(x == f); } }
+refused 1:49 UnknownName|contract S() { function f(int x) { require(x == y); } }
+refused 1:49 UnknownName|contract S() { function f(int x) { require(x == f); } }
+code|pragma cashscript ^0.7.0; contract S() { function f(int x, int y) { require(x == y); } }
+code|pragma cashscript 0.7.0; contract S() { function f(int x, int y) { require(x == y); } }
+refused 1:19 PragmaRefused|pragma cashscript 0.7.1; contract S() { function f(int x, int y) { require(x == y); } }
+refused 1:19 PragmaRefused|pragma cashscript ^0.6.0; contract Eq(int a) { function f(int b) { require(a == b); } }
+refused 1:40 Redeclared|contract U() { function f(int z) { int z = 1; require(z == 1); } }
+refused 1:39 UnknownName|contract U() { function f() { require(z == 1); } }
+refused 1:56 AssignToConstant|contract S() { function f(int x) { int constant y = 1; y = x; require(x == y); } }
+refused 1:1 NoFunction|contract N() { }
 refused 1:16 OpenComment|contract A() { /* x
 refused 1:39 OddHex|contract S() { function f() { require(0x123 == 1); } }
 refused 2:1 BadCharacter|// é~é

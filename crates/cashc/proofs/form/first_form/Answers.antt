@@ -7,5 +7,5 @@ use Rattle.cashc.proofs.form.first_form.Goals as goal
 pub returns-clause-built : goal.returns-clause-built
 unfolding first_form
 returns-clause-built c =
-    let found : Some c.in_ok-built.field-0 ≡ first_form c.args.source.now c.args.tree.now = first_of (search rules, grind (arith, common_steps)) in
-    form_is c.args.source.now c.args.tree.now c.in_ok-built.field-0 (sym found)
+    let found : Some c.in_ok-built.field-0 ≡ first_form c.args.tree.now = first_of (search rules, grind (arith, common_steps)) in
+    form_is c.args.tree.now c.in_ok-built.field-0 (sym found)
