@@ -1,0 +1,10 @@
+pub mod First
+pub mod Judging
+pub mod Kept
+pub mod Lists
+pub mod Outlined
+pub mod StmtOutlined
+pub mod StmtTyped
+pub mod Typed
+pub mod Unfolds
+pub mod Whole
