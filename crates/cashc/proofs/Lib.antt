@@ -1,8 +1,3 @@
-pub mod Accepted
-pub mod Columns
-pub mod Decided
-pub mod Emits
-pub mod FormShape
-pub mod Stages
+pub mod Answered
+pub mod Judged
 pub mod Told
-pub mod Ways

@@ -1,8 +1,3 @@
-pub mod Compile
-pub mod Decides
-pub mod Emission
-pub mod Form
+pub mod Answering
 pub mod RefusalText
-pub mod Seen
-pub mod SpanMap
 pub mod TopCall

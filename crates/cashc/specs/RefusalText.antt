@@ -9,9 +9,9 @@ use Rattle.cash_parser.specs.declared.fault.ParseFault.{ParseFault}
 use Rattle.cash_parser.specs.declared.fault.ParseFault.TheVariants as parser
 use Rattle.cash_names.specs.declared.fault.NameFault.{NameFault}
 use Rattle.cash_names.specs.declared.fault.NameFault.TheVariants as names
-use Rattle.cashc.specs.declared.refusal.Refusal.{Refusal}
-use Rattle.cashc.specs.declared.refusal.Refusal.TheVariants.{SourceTooLong, NotUtf8, Lex, Parse, Name, NotBuilt, Memory}
-use Rattle.cashc.specs.SpanMap.{line_col}
+use Rattle.cash_compile.specs.declared.refusal.Refusal.{Refusal}
+use Rattle.cash_compile.specs.declared.refusal.Refusal.TheVariants.{SourceTooLong, NotUtf8, Lex, Parse, Name, NotBuilt, Memory}
+use Rattle.span_map.specs.Lines.{line_col}
 
 -- ---- places
 

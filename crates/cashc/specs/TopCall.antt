@@ -1,14 +1,38 @@
--- What the program promises: what `compile FILE` writes, status by status.
-use Rattle.std.specs.Prelude.{◌≡◌, ℕ, ◌<◌, ◌≤◌, ◌⊎◌, List, [], ◌∷◌, ◌++◌, length, codes, Option, Some, None, IfSome, IsSomeAnd, if◌then◌else◌, string_bytes}
+-- What the program promises: what each command writes, status by status.
+use Rattle.std.specs.Prelude.{◌≡◌, ℕ, ◌<◌, ◌≤◌, ◌⊎◌, List, [], ◌∷◌, ◌++◌, length, codes, Option, Some, None, IfSome, IsSomeAnd, if◌then◌else◌, string_bytes, Ok, Err}
 use Rattle.std.specs.Str.{bytes_eq}
 use Rattle.std.specs.Global.{Global}
 use Rattle.hex.specs.Hex.{encode_lower}
 use Rattle.std.specs.declared.string.String.{String}
 use Rattle.cash_base.specs.Outside.{Files, file_named, Rose, Grew, GrewByFront}
+use Rattle.cash_base.specs.declared.place.Slot.{Slot}
+use Rattle.cash_tree.specs.declared.Ty.{Ty}
+use Rattle.cash_tree.specs.declared.Contract.{Contract}
+use Rattle.cash_tree.specs.declared.Function.{Function}
+use Rattle.source_meaning.specs.declared.outcome.SourceOutcome.{SourceOutcome}
+use Rattle.source_meaning.specs.declared.outcome.SourceOutcome.TheVariants.{Met, Failed}
+use Rattle.source_meaning.specs.Meaning.{source_outcome}
 use Rattle.script_codec.specs.declared.instr.Instr.{Instr}
 use Rattle.script_codec.specs.Spelling.{spellings}
-use Rattle.cashc.specs.declared.refusal.Refusal.{Refusal}
-use Rattle.cashc.specs.Compile.{max_source_len, IsCompiled, IsRefused}
+use Rattle.bch_vm.specs.declared.outcome.Which.TheVariants.{Redeem}
+use Rattle.bch_vm.specs.declared.outcome.MachineOutcome.{MachineOutcome}
+use Rattle.bch_vm.specs.declared.outcome.MachineOutcome.TheVariants.{Accepted, Refused}
+use Rattle.bch_vm.specs.Law.{locking_script}
+use Rattle.bch_vm.specs.Spend.{spend_outcome}
+use Rattle.span_map.specs.Lines.{line_col}
+use Rattle.artifact_json.specs.Artifact.{Artifact}
+use Rattle.unlocker.specs.Scripts.{redeem_script, spending_script}
+use Rattle.spend_debug.specs.SpendLines.{spend_elements}
+use Rattle.unlocker.specs.declared.BuildFault.{BuildFault}
+use Rattle.spend_debug.specs.declared.spend_lines.LineFault.{LineFault}
+use Rattle.spend_debug.specs.declared.spends.SpendStop.TheVariants.{Build}
+use Rattle.spend_debug.specs.SpendDebug.{plain_frame, SpendParts, built_scripts}
+use Rattle.spend_debug.specs.declared.report.InputStop.{InputStop}
+use Rattle.spend_debug.specs.declared.report.InputStop.TheVariants.{TooLong}
+use Rattle.spend_debug.specs.Telling.{script_line, failure_line, line_stop, build_stop, input_line}
+use Rattle.cash_compile.specs.declared.refusal.Refusal.{Refusal}
+use Rattle.cash_compile.specs.Compile.{max_source_len, IsAccepted, IsRefused}
+use Rattle.cash_compile.specs.Correct.{Admits, IsCorrect, spending_context}
 use Rattle.cashc.specs.RefusalText.{source_too_long, refusal_text}
 
 -- ---- the words
@@ -16,50 +40,162 @@ use Rattle.cashc.specs.RefusalText.{source_too_long, refusal_text}
 abbrev pub usage : List ℕ
 usage = codes "usage: cashc compile FILE [--updated-at TEXT] | debug SOURCE SPEND | trace SOURCE SPEND | spend ARTIFACT SPEND | meaning SOURCE SPEND | workload NUMBER\n"
 
--- the source that the words name, where they are `compile FILE`
-abbrev pub named_source : List (String Global) → Option (List ℕ)
-named_source (command ∷ file ∷ []) = if bytes_eq (string_bytes command) (codes "compile") then Some (string_bytes file) else None
-named_source _ = None
+-- a command, with the names of its files
+pub data Command : Type 0 where
+  compile_file : List ℕ → Command
+  debug_files : List ℕ → List ℕ → Command
 
--- ---- the texts
+-- the command that the words are, if they are one: `compile FILE` or `debug SOURCE SPEND`
+abbrev pub command_of : List (String Global) → Option Command
+command_of (command ∷ source ∷ []) =
+    if bytes_eq (string_bytes command) (codes "compile") then Some (compile_file (string_bytes source)) else None
+command_of (command ∷ source ∷ spend ∷ []) =
+    if bytes_eq (string_bytes command) (codes "debug") then Some (debug_files (string_bytes source) (string_bytes spend)) else None
+command_of _ = None
+
+-- the file of its source
+abbrev pub source_name : Command → List ℕ
+source_name (compile_file source) = source
+source_name (debug_files source spend) = source
+
+-- the command reads a file of this name
+abbrev pub Reads : Command → List ℕ → Type 0
+Reads (compile_file source) name = name ≡ source
+Reads (debug_files source spend) name = (name ≡ source) ⊎ (name ≡ spend)
+
+-- ---- the files, where the store tells them
+
+abbrev pub IsFile : Option Files → List ℕ → List ℕ → Type 0
+IsFile files name bytes = IfSome files (λ fs. file_named name fs ≡ Some bytes)
+
+-- it is longer than so many bytes
+abbrev pub IsLonger : Option Files → List ℕ → ℕ → Type 0
+IsLonger files name limit = IfSome files (λ fs. (bytes : List ℕ) × (file_named name fs ≡ Some bytes) × (limit < length bytes))
+
+abbrev pub IsMissing : Option Files → List ℕ → Type 0
+IsMissing files name = IsSomeAnd files (λ fs. file_named name fs ≡ None)
+
+-- a file of arguments has at most so many bytes
+abbrev pub max_spend_len : ℕ
+max_spend_len = 4194304
+
+-- the file is a source that stands for the contract, and the program is correct for it
+pub record IsBuilt (files : Option Files) (name source : List ℕ) (contract : Contract Slot Ty) (program : Artifact) : Type 0 where
+  pub found : IsFile files name source
+  pub accepted : IsAccepted source contract
+  pub correct : IsCorrect source contract program
+
+-- ---- what is shown: statuses 0 and 3
 
 -- the line that shows some instructions
 abbrev pub code_line : List Instr → List ℕ
 code_line code = codes "code " ++ encode_lower (spellings code) ++ codes "\n"
 
+-- the code of a program that is correct for the source's contract
+abbrev pub IsLine : Option Files → List ℕ → List ℕ → Type 0
+IsLine files name line =
+    (source : List ℕ) × (contract : Contract Slot Ty) × (program : Artifact) × IsBuilt files name source contract program × (line ≡ code_line program.code)
+
+-- the spend that a file of arguments asks for: nothing for the constructor, the first function, and nothing of a transaction
+abbrev pub plain_spend : List (List ℕ) → SpendParts
+plain_spend args = record { ctor = []; chosen = 0; args = args; frame = plain_frame; verdicts = [] }
+
+-- the three scripts of a spend, a line each, and the line of the verdict
+abbrev pub report : List ℕ → List ℕ → List ℕ → List ℕ
+report redeem unlocking verdict =
+    script_line (codes "redeem") redeem ++ script_line (codes "unlocking") unlocking
+    ++ script_line (codes "locking") (locking_script redeem) ++ verdict
+
+-- What the source's run and the machine's spend come to together. Status 0: the run is met, and the spend accepted. Status
+-- 3: the run fails, and the spend is refused in the redeem script. Nothing else goes together.
+abbrev pub IsVerdict : List ℕ → SourceOutcome → MachineOutcome → ℕ → List ℕ → Type 0
+IsVerdict source Met Accepted status line = (status ≡ 0) × (line ≡ codes "accepted\n")
+IsVerdict source (Failed span cause) (Refused Redeem at fault) status line =
+    (status ≡ 3) × (line ≡ failure_line (line_col source span.from) cause at)
+IsVerdict source run spend status line = ⊥
+
+-- The arguments of a file call the contract's only function. The scripts are those of the program, which is correct for
+-- the contract: for all other arguments too.
+pub record IsJudged (source : List ℕ) (contract : Contract Slot Ty) (program : Artifact) (spend : List ℕ) (status : ℕ) (text : List ℕ) : Type 0 where
+  pub args : List (List ℕ)
+  pub read : spend_elements spend ≡ Ok args
+  pub function : Function Slot Ty
+  pub only : contract.functions ≡ function ∷ []
+  pub admitted : Admits contract program.code [] 0 function args
+  pub line : List ℕ
+  pub verdict : IsVerdict source (source_outcome contract [] function args)
+      (spend_outcome (spending_context contract program.code [] 0 args plain_frame) []) status line
+  pub shown : text ≡ report (redeem_script program.code []) (spending_script (length contract.functions) 0 args (redeem_script program.code [])) line
+
+-- the scripts and the verdict of the spend of the first file's contract that the second file asks for
+pub record IsReport (files : Option Files) (source_name spend_name : List ℕ) (status : ℕ) (text : List ℕ) : Type 0 where
+  pub source : List ℕ
+  pub contract : Contract Slot Ty
+  pub program : Artifact
+  pub built : IsBuilt files source_name source contract program
+  pub spend : List ℕ
+  pub beside : IsFile files spend_name spend
+  pub judged : IsJudged source contract program spend status text
+
+abbrev pub IsShownFor : Option Files → Option Command → ℕ → List ℕ → Type 0
+IsShownFor files (Some (compile_file source)) status text = (status ≡ 0) × IsLine files source text
+IsShownFor files (Some (debug_files source spend)) status text = IsReport files source spend status text
+IsShownFor files None status text = ⊥
+
+-- what statuses 0 and 3 write to `out`
+abbrev pub IsShown : Option Files → List (String Global) → ℕ → List ℕ → Type 0
+IsShown files words status text = IsShownFor files (command_of words) status text
+
+-- ---- what is refused: statuses 1, 2 and 4
+
+-- the source is longer than it may be, or it isn't and is refused
+abbrev pub IsRefusal : Option Files → List ℕ → List ℕ → Type 0
+IsRefusal files name text =
+    (IsLonger files name max_source_len × (text ≡ source_too_long))
+    ⊎ ((source : List ℕ) × (refusal : Refusal) × IsFile files name source × (length source ≤ max_source_len) × IsRefused source refusal
+    × (text ≡ refusal_text source refusal))
+
+-- the first fault of a file of arguments, or else of the scripts that they ask for
+abbrev pub IsSpendStop : Artifact → List ℕ → InputStop → Type 0
+IsSpendStop program spend stop =
+    ((fault : LineFault) × (spend_elements spend ≡ Err fault) × (line_stop fault ≡ Some stop))
+    ⊎ ((args : List (List ℕ)) × (fault : BuildFault) × (spend_elements spend ≡ Ok args) × (built_scripts program (plain_spend args) ≡ Err (Build fault))
+    × (build_stop fault ≡ Some stop))
+
+-- the source is accepted, and the file of arguments is longer than it may be, or it isn't and is refused
+abbrev pub IsInputRefusal : Option Files → List ℕ → List ℕ → List ℕ → Type 0
+IsInputRefusal files source_name spend_name text =
+    (source : List ℕ) × (contract : Contract Slot Ty) × (program : Artifact) × IsBuilt files source_name source contract program
+    × ((IsLonger files spend_name max_spend_len × (text ≡ input_line TooLong))
+    ⊎ ((spend : List ℕ) × (stop : InputStop) × IsFile files spend_name spend × (length spend ≤ max_spend_len) × IsSpendStop program spend stop
+    × (text ≡ input_line stop)))
+
+abbrev pub IsInputRefusalFor : Option Files → Command → List ℕ → Type 0
+IsInputRefusalFor files (compile_file source) text = ⊥
+IsInputRefusalFor files (debug_files source spend) text = IsInputRefusal files source spend text
+
+-- the words are no command; or the source is refused; or it isn't, and what is handed in with it is
+abbrev pub IsToldFor : Option Files → Option Command → ℕ → List ℕ → Type 0
+IsToldFor files None status text = (status ≡ 2) × (text ≡ usage)
+IsToldFor files (Some command) status text =
+    ((status ≡ 1) × IsRefusal files (source_name command) text) ⊎ ((status ≡ 4) × IsInputRefusalFor files command text)
+
+-- what statuses 1, 2 and 4 write to `err`
+abbrev pub IsTold : Option Files → List (String Global) → ℕ → List ℕ → Type 0
+IsTold files words status text = IsToldFor files (command_of words) status text
+
+-- ---- what stops: statuses 5, 6 and 7
+
 abbrev pub read_failed : List ℕ
 read_failed = codes "read failed\n"
 
--- ---- the source
+-- the cause of status 5: the store had a fault, or tells its files and lacks one that the command reads
+abbrev pub HasReadCauseFor : Option Files → Option Command → ℕ → ℕ → Type 0
+HasReadCauseFor files None before now = ⊥
+HasReadCauseFor files (Some command) before now = Rose before now ⊎ ((name : List ℕ) × Reads command name × IsMissing files name)
 
--- the words name a file with these bytes, where the store tells its files
-abbrev pub IsSource : Option Files → List (String Global) → List ℕ → Type 0
-IsSource files words source = (name : List ℕ) × (named_source words ≡ Some name) × IfSome files (λ fs. file_named name fs ≡ Some source)
-
--- the words name a file that is longer than a source may be, where the store tells its files
-abbrev pub IsLongSource : Option Files → List (String Global) → Type 0
-IsLongSource files words = (name : List ℕ) × (named_source words ≡ Some name) × IfSome files (λ fs. (source : List ℕ) × (file_named name fs ≡ Some source) × (max_source_len < length source))
-
--- the line that status 0 writes: the source stands for a contract that the shown code decides
-abbrev pub IsLine : Option Files → List (String Global) → List ℕ → Type 0
-IsLine files words line = (source : List ℕ) × (code : List Instr) × IsSource files words source × IsCompiled source code × (line ≡ code_line code)
-
--- the text of status 1: the source is too long, or it isn't and is refused
-abbrev pub IsRefusal : Option Files → List (String Global) → List ℕ → Type 0
-IsRefusal files words text =
-    (IsLongSource files words × (text ≡ source_too_long))
-    ⊎ ((source : List ℕ) × (refusal : Refusal) × IsSource files words source × (length source ≤ max_source_len) × IsRefused source refusal
-    × (text ≡ refusal_text source refusal))
-
--- the text of status 2: the words are no command
-abbrev pub IsMisuse : List (String Global) → List ℕ → Type 0
-IsMisuse words text = (named_source words ≡ None) × (text ≡ usage)
-
--- ---- the statuses
-
--- the cause of status 5: the store had a fault, or tells its files and has none that the words name
 abbrev pub HasReadCause : Option Files → List (String Global) → ℕ → ℕ → Type 0
-HasReadCause files words before now = Rose before now ⊎ IsSomeAnd files (λ fs. (name : List ℕ) × (named_source words ≡ Some name) × (file_named name fs ≡ None))
+HasReadCause files words before now = HasReadCauseFor files (command_of words) before now
 
 -- a sink had a fault, and grew by a front of the text
 abbrev pub Stopped : ℕ → ℕ → Option (List ℕ) → Option (List ℕ) → List ℕ → Type 0

@@ -1,15 +1,8 @@
 //! `cashc`: the compiler of contracts for Bitcoin Cash.
 #![tactic(auto)]
 
-pub mod compile;
-pub mod emission;
-mod form;
-pub mod reading;
-pub mod refusal;
+mod commands;
 mod refusal_text;
-#[cfg(test)]
-mod run_tests;
-pub mod span_map;
 #[cfg(test)]
 mod tests;
 pub mod top_call;

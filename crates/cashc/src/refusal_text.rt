@@ -1,16 +1,16 @@
 //! How a refusal is printed.
 
 ghost use Rattle.std.specs.Prelude.{◌≡◌, ◌≢◌, ◌≤◌, length, string_bytes, [], IfOk};
-ghost use Rattle.cashc.specs.Compile.{IsText, IsRefused, max_source_len};
+ghost use Rattle.cash_compile.specs.Compile.{IsText, IsRefused, max_source_len};
 ghost use Rattle.cashc.specs.RefusalText;
 ghost use Rattle.cashc.specs.RefusalText.{named_at, at_place, lex_text, parse_text, name_text};
 
-use crate::refusal::Refusal;
-use crate::span_map::line_col_of;
 use cash_base::Memory;
+use cash_compile::Refusal;
 use cash_lexer::{LexFault, tokens};
 use cash_names::NameFault;
 use cash_parser::ParseFault;
+use span_map::line_col_of;
 use std::alloc::{AllocError, Global};
 
 /// Where the token with this number begins, or else the end of the source.

@@ -1,10 +1,9 @@
 // The top call on its rows.
 
-use crate::compile::compile;
-use crate::refusal::Refusal;
-use crate::span_map::line_col;
 use crate::top_call::cashc;
 use cash_base::{MemorySink, MemoryStore, Sink, Span, Store, SureSink, SureStore};
+use cash_compile::Refusal;
+use cash_compile::compile::compile;
 use cash_parser::{DepthRule, ParseFault};
 use std::alloc::{AllocError, Global};
 use std::test::Fail;
@@ -24,29 +23,35 @@ fn words_of(alloc: Global, words: &[&str]) -> Result<Vec<String>, AllocError> {
     Ok(all)
 }
 
-// One file, `s`.
-fn file(alloc: Global, source: &[u8]) -> Result<Vec<(String, Vec<u8>)>, AllocError> {
+// Two files, a source `s` and arguments `p`.
+fn files(alloc: Global, source: &[u8], spend: &[u8]) -> Result<Vec<(String, Vec<u8>)>, AllocError> {
     let mut files = Vec::new(alloc);
-    files.push((
-        String::from_str(alloc, "s")?,
-        Vec::from_slice(alloc, source)?,
-    ))?;
+    for (name, bytes) in [("s", source), ("p", spend)] {
+        files.push((
+            String::from_str(alloc, name)?,
+            Vec::from_slice(alloc, bytes)?,
+        ))?;
+    }
     Ok(files)
 }
 
-// A call with one file, and what it answers and writes. The calls of the store, of `out` and of `err` whose number is
+// A call with two files, and what it answers and writes. The calls of the store, of `out` and of `err` whose number is
 // given fail; 9 is never reached.
 #[derive(Drop)]
 struct Call<'a> {
     words: &'a [&'a str],
     source: &'a [u8],
+    spend: &'a [u8],
     failing: [u32; 3],
 }
 
 fn answer(alloc: Global, call: &Call<'_>) -> Result<(u8, MemorySink, MemorySink), Fail> {
     let [store, out, err] = call.failing;
     let words = words_of(alloc, call.words)?;
-    let mut store = MemoryStore::new(file(alloc, call.source)?, vec![in alloc; store]?);
+    let mut store = MemoryStore::new(
+        files(alloc, call.source, call.spend)?,
+        vec![in alloc; store]?,
+    );
     let mut out = MemorySink::new(alloc, vec![in alloc; out]?)?;
     let mut err = MemorySink::new(alloc, vec![in alloc; err]?)?;
     let status = cashc(alloc, words.as_slice(), &mut store, &mut out, &mut err);
@@ -58,6 +63,7 @@ fn an_equality_is_compiled(rt: HostRuntime) -> Result<(), Fail> {
     let call = Call {
         words: &["compile", "s"],
         source: EQUALITY.as_bytes(),
+        spend: b"",
         failing: [9, 9, 9],
     };
     let (status, out, err) = answer(rt.alloc(), &call)?;
@@ -72,7 +78,7 @@ fn an_equality_is_compiled(rt: HostRuntime) -> Result<(), Fail> {
 #[test]
 fn each_other_status(rt: HostRuntime) -> Result<(), Fail> {
     let long = vec![in rt.alloc(); b' '; 65_537]?;
-    let rows: [(&[&str], &[u8], [u32; 3], u8, &str); 12] = [
+    let rows: [(&[&str], &[u8], [u32; 3], u8, &str); 21] = [
         (
             &["compile", "s"],
             INEQUALITY.as_bytes(),
@@ -115,11 +121,57 @@ fn each_other_status(rt: HostRuntime) -> Result<(), Fail> {
         (&["compile", "t"], EQUALITY.as_bytes(), [9, 9, 0], 5, ""),
         (&["compile", "s"], EQUALITY.as_bytes(), [9, 0, 9], 6, ""),
         (&["compile", "s"], INEQUALITY.as_bytes(), [9, 9, 0], 6, ""),
+        (&["debug", "s"], EQUALITY.as_bytes(), [9, 9, 9], 2, USAGE),
+        (
+            &["debug", "s", "p"],
+            INEQUALITY.as_bytes(),
+            [9, 9, 9],
+            1,
+            "refused 1:1 NotBuilt\n",
+        ),
+        (
+            &["debug", "s", "p"],
+            long.as_slice(),
+            [9, 9, 9],
+            1,
+            "refused SourceTooLong\n",
+        ),
+        (
+            &["debug", "s", "s"],
+            EQUALITY.as_bytes(),
+            [9, 9, 9],
+            4,
+            "input BadHex arguments\n",
+        ),
+        (
+            &["debug", "s", "p"],
+            EQUALITY.as_bytes(),
+            [0, 9, 9],
+            5,
+            "read failed\n",
+        ),
+        (
+            &["debug", "s", "p"],
+            EQUALITY.as_bytes(),
+            [1, 9, 9],
+            5,
+            "read failed\n",
+        ),
+        (
+            &["debug", "s", "q"],
+            EQUALITY.as_bytes(),
+            [9, 9, 9],
+            5,
+            "read failed\n",
+        ),
+        (&["debug", "s", "p"], EQUALITY.as_bytes(), [9, 0, 9], 6, ""),
+        (&["debug", "s", "s"], EQUALITY.as_bytes(), [9, 9, 0], 6, ""),
     ];
     for (words, source, failing, wanted, text) in rows {
         let call = Call {
             words,
             source,
+            spend: b"05\n05\n",
             failing,
         };
         let (status, out, err) = answer(rt.alloc(), &call)?;
@@ -179,6 +231,7 @@ fn printed(alloc: Global, source: &[u8]) -> Result<String, Fail> {
     let call = Call {
         words: &["compile", "s"],
         source,
+        spend: b"",
         failing: [9, 9, 9],
     };
     let (status, out, err) = answer(alloc, &call)?;
@@ -258,24 +311,112 @@ fn the_129th_if_is_too_deep(rt: HostRuntime) -> Result<(), Fail> {
     Ok(())
 }
 
+// Calls `debug` on the equality of two numbers.
+fn spent(alloc: Global, spend: &[u8]) -> Result<(u8, MemorySink, MemorySink), Fail> {
+    let call = Call {
+        words: &["debug", "s", "p"],
+        source: EQUALITY.as_bytes(),
+        spend,
+        failing: [9, 9, 9],
+    };
+    answer(alloc, &call)
+}
+
+// Arguments, the status, and how the last line begins: the index behind `opcode` depends on the code.
 #[test]
-fn lines_and_columns(rt: HostRuntime) -> Result<(), Fail> {
-    for (at, place) in [
-        (0, (1, 1)),
-        (2, (1, 3)),
-        (3, (2, 1)),
-        (4, (3, 1)),
-        (5, (3, 2)),
-    ] {
-        assert_eq!(rt; line_col("ab\n\nc", at), place);
+fn spends_and_their_verdicts(rt: HostRuntime) -> Result<(), Fail> {
+    let rows: [(&str, u8, &str); 5] = [
+        ("05\n05\n", 0, "accepted\n"),
+        ("05\n06\n", 3, "refused 1:43 CheckFailed opcode "),
+        (
+            "050505050505050505\n05\n",
+            3,
+            "refused 1:51 NotANumber opcode ",
+        ),
+        ("00\n-\n", 3, "refused 1:51 NotANumber opcode "),
+        ("e803\nE803\n", 0, "accepted\n"),
+    ];
+    for (spend, wanted, verdict) in rows {
+        let (status, out, err) = spent(rt.alloc(), spend.as_bytes())?;
+        assert_eq!(rt; status, wanted, "{spend}");
+        assert!(rt; err.bytes().is_empty(), "{spend}");
+        let mut lines = str::from_utf8(out.bytes())?.split_inclusive('\n');
+        for name in ["redeem ", "unlocking ", "locking a914"] {
+            let line = lines.next().ok_or("a line")?;
+            assert!(rt; line.starts_with(name), "{spend}");
+        }
+        let line = lines.next().ok_or("a verdict")?;
+        assert!(rt; line.starts_with(verdict), "{spend}");
+        assert!(rt; lines.next().is_none(), "{spend}");
     }
+    Ok(())
+}
+
+// The printed scripts by the rules of pay to script hash: the arguments, the last first, and a push of the redeem script.
+#[test]
+fn scripts_of_a_spend(rt: HostRuntime) -> Result<(), Fail> {
+    let (status, out, _err) = spent(rt.alloc(), b"05\n0c00\n")?;
+    assert_eq!(rt; status, 3);
+    let mut lines = str::from_utf8(out.bytes())?.lines();
+    let redeem = lines.next().ok_or("redeem")?;
+    let redeem = redeem.strip_prefix("redeem ").ok_or("redeem")?;
+    let unlocking = lines.next().ok_or("unlocking")?;
+    let pushed = unlocking
+        .strip_prefix("unlocking 020c0055")
+        .ok_or("unlocking")?;
+    let size = redeem.len() / 2;
+    let wanted = format!(in rt.alloc(); "{size:02x}{redeem}")?;
+    assert_eq!(rt; pushed, wanted.as_str());
+    let locking = lines.next().ok_or("locking")?;
+    assert_eq!(rt; locking.len(), "locking ".len() + 46);
+    assert!(rt; locking.ends_with("87"));
+    Ok(())
+}
+
+// What is printed of a file of so many equal lines.
+fn refused_lines(alloc: Global, line: &str, count: usize) -> Result<String, Fail> {
+    let (_status, _out, err) = spent(alloc, times(alloc, line, count)?.as_bytes())?;
+    Ok(String::from_str(alloc, str::from_utf8(err.bytes())?)?)
+}
+
+#[test]
+fn arguments_that_are_refused(rt: HostRuntime) -> Result<(), Fail> {
+    let alloc = rt.alloc();
+    for (spend, wanted) in [
+        ("05\n", "input WrongCount 2 1\n"),
+        ("", "input WrongCount 2 0\n"),
+        ("05\n05", "input BadHex arguments\n"),
+        ("05\n\n", "input BadHex arguments\n"),
+        ("05\n5\n", "input BadHex arguments\n"),
+        ("05\n0g\n", "input BadHex arguments\n"),
+        ("05 \n05\n", "input BadHex arguments\n"),
+        ("--\n05\n", "input BadHex arguments\n"),
+    ] {
+        let (status, out, err) = spent(alloc, spend.as_bytes())?;
+        assert_eq!(rt; status, 4, "{spend}");
+        assert!(rt; out.bytes().is_empty(), "{spend}");
+        assert_eq!(rt; err.bytes(), wanted.as_bytes());
+    }
+    let text = refused_lines(alloc, "05\n", 16)?;
+    assert_eq!(rt; text.as_str(), "input WrongCount 2 16\n");
+    let text = refused_lines(alloc, "0\n", 17)?;
+    assert_eq!(rt; text.as_str(), "input TooMany arguments\n");
+    let mut longest = times(alloc, "00", 520)?;
+    longest.push_str("\n05\n")?;
+    let (status, _out, _err) = spent(alloc, longest.as_bytes())?;
+    assert_eq!(rt; status, 3);
+    let mut longer = String::from_str(alloc, "00")?;
+    longer.push_str(longest.as_str())?;
+    let (status, _out, err) = spent(alloc, longer.as_bytes())?;
+    assert_eq!(rt; status, 4);
+    assert_eq!(rt; err.bytes(), b"input Range arguments\n".as_slice());
     Ok(())
 }
 
 #[test]
 fn a_sure_outside_serves(rt: HostRuntime) -> Result<(), Fail> {
-    let words = words_of(rt.alloc(), &["compile", "s"])?;
-    let mut store = SureStore::new(file(rt.alloc(), EQUALITY.as_bytes())?);
+    let words = words_of(rt.alloc(), &["debug", "s", "p"])?;
+    let mut store = SureStore::new(files(rt.alloc(), EQUALITY.as_bytes(), b"05\n05\n")?);
     let status = cashc(
         rt.alloc(),
         words.as_slice(),

@@ -1,0 +1,172 @@
+-- The rows of a whole function agree with its contract.
+use Rattle.std.proofs.Common.{◌≡◌, ℕ, ◌+◌, ◌≤◌, ◌<◌, ◌⊎◌, inl, inr, Bool, true, false, cond, List, [], ◌∷◌, ◌++◌, length, map, replicate, ◌-◌, zero, suc, Some, Result, Ok, Err, refl, sym, ap, ◌∙◌, subst, arith}
+use Rattle.std.specs.Prelude.{slice_get, option_map, IsTrue}
+use Rattle.std.specs.List.{AllByRecursion, list_all}
+use Rattle.std.proofs.lemmas.Bool.{and_parts, and_from, eqb-true}
+use Rattle.std.proofs.lemmas.Option.{slice_get-map}
+use Rattle.cash_base.specs.declared.fault.Cause.{Cause}
+use Rattle.cash_base.specs.declared.fault.Cause.TheVariants.{CheckFailed}
+use Rattle.cash_base.specs.declared.fault.MachineCause.TheVariants.{Shared, EndFalse}
+use Rattle.cash_base.specs.declared.place.Slot.{Slot}
+use Rattle.cash_base.specs.declared.place.Span.{Span}
+use Rattle.cash_base.specs.Failing.{◌>>=◌}
+use Rattle.cash_base.specs.Number.{truth_of}
+use Rattle.cash_tree.specs.declared.Ty.{Ty}
+use Rattle.cash_tree.specs.declared.Param.{Param}
+use Rattle.cash_tree.specs.declared.Contract.{Contract}
+use Rattle.source_meaning.specs.declared.outcome.Failure as source
+use Rattle.source_meaning.specs.declared.outcome.SourceOutcome.{SourceOutcome}
+use Rattle.source_meaning.specs.Meaning.{Env, value_of, checked, fails, with_values, no_values, ended, env_after_kind, env_after_all, source_outcome}
+use Rattle.script_codec.specs.declared.spans.Spanned.{Spanned}
+use Rattle.script_codec.specs.Spelling.{is_instruction, are_instructions}
+use Rattle.bch_vm.specs.declared.failure.Failure.{Failure}
+use Rattle.bch_vm.specs.Stack.{Stack}
+use Rattle.bch_vm.specs.Script.{State, Progress, state, beginning, run, balanced, run_end}
+use Rattle.span_map.specs.declared.SpanRow.{SpanRow}
+use Rattle.span_map.specs.Places.{place_in, place_of}
+use Rattle.cash_parser.specs.Inside.{IsInside}
+use Rattle.cash_compile.specs.Describes.{IsRowInside}
+use Rattle.cash_compile.specs.Rows.{RowFailure, run_rows, row, doings, instructions, places, is_span, is_row_of, are_rows_of, is_plain, AreFew}
+use Rattle.cash_compile.specs.Decides.{EndsAs, AgreesByRun}
+use Rattle.source_meaning.specs.Runnable.{HaveSlotsFrom, env_of}
+use Rattle.source_meaning.proofs.Slots.{with_values-env_of}
+use Rattle.cash_compile.specs.Emission.{HoldsArgs, IsEmittable, Leaves, Follows, told_of, IsKindInside, IsStatementInside, IsContractInside}
+use Rattle.cash_compile.proofs.Emits.{opcode, next}
+use Rattle.cash_compile.proofs.Rows.{rows_in_turn, Located, located, last_within}
+
+-- the slots of the parameters hold the arguments
+holds_args : (params : List (Param Slot)) (args : List (List ℕ)) → HaveSlotsFrom 0 params → length args ≡ length params → HoldsArgs (with_values params args no_values) args
+unfolding env_of
+holds_args params args slots count slot within = ap (λ env. env slot) (with_values-env_of [] params [] args tt refl slots count)
+
+-- ---- the parameters are dropped from below the value
+
+abbrev nip : Span → Spanned
+nip statement = row (opcode 0x77) statement statement
+
+drops : (statement : Span) (v : List ℕ) (args : Stack) (at : Progress) → (end : Progress) × (run_rows (replicate (length args) (nip statement)) (state (v ∷ args) at) ≡ Ok (state (v ∷ []) end))
+drops statement v [] at = (at, refl)
+drops statement v (arg ∷ args) at = drops statement v args (next at)
+
+-- the rows of a function: of the value, and then what drops its parameters
+abbrev whole : Span → ℕ → List Spanned → List Spanned
+whole statement params rows = rows ++ replicate params (nip statement)
+
+all_left : (statement : Span) (args : Stack) (rows : List Spanned) (r : Result (List ℕ) source.Failure) → Leaves args r (run_rows rows (state args beginning)) → Leaves [] r (run_rows (whole statement (length args) rows) (state args beginning))
+all_left statement args rows (Ok v) (at, is) =
+    let dropped = drops statement v args at in
+    (dropped.0, rows_in_turn rows (replicate (length args) (nip statement)) (state args beginning) ∙ ap (λ n. n >>= run_rows (replicate (length args) (nip statement))) is ∙ dropped.1)
+all_left statement args rows (Err failure) (r, is, place) =
+    (r, rows_in_turn rows (replicate (length args) (nip statement)) (state args beginning) ∙ ap (λ n. n >>= run_rows (replicate (length args) (nip statement))) is, place)
+
+-- ---- every row belongs to the statement
+
+same_span : (a b : Span) → is_span a b ≡ true → a ≡ b
+same_span a b is =
+    let parts = and_parts _ _ is in
+    let from : a.from ≡ b.from = eqb-true a.from b.from parts.0 in
+    let to : a.to ≡ b.to = eqb-true a.to b.to parts.1 in
+    ap (λ (n : ℕ). record { from = n; to = a.to }) from ∙ ap (λ (n : ℕ). record { from = b.from; to = n }) to
+
+end_place : (statement : Span) (rows : List Spanned) (k : ℕ) → are_rows_of statement rows ≡ true → k < length rows → place_of (map places rows) k EndFalse ≡ Some statement
+end_place statement [] k all within = absurd (omega (arith, within))
+end_place statement (r ∷ rows) zero all within = ap Some (same_span r.checking statement (and_parts _ _ (and_parts _ _ all).0).1)
+end_place statement (r ∷ rows) (suc k) all within = end_place statement rows k (and_parts _ _ all).1 (omega (arith, within))
+
+all_spelled : (statement : Span) (rows : List Spanned) → are_rows_of statement rows ≡ true → are_instructions (instructions rows) ≡ true
+all_spelled statement [] all = refl
+all_spelled statement (r ∷ rows) all =
+    let parts = and_parts _ _ all in
+    and_from _ _ (and_parts _ _ (and_parts _ _ parts.0).0).0 (all_spelled statement rows parts.1)
+
+all_plain : (statement : Span) (rows : List Spanned) → are_rows_of statement rows ≡ true → list_all is_plain (instructions rows) ≡ true
+all_plain statement [] all = refl
+all_plain statement (r ∷ rows) all =
+    let parts = and_parts _ _ all in
+    and_from _ _ (and_parts _ _ parts.0).0 (all_plain statement rows parts.1)
+
+pub are_few : (statement : Span) (rows : List Spanned) → are_rows_of statement rows ≡ true → length rows ≤ 150 → AreFew rows
+are_few statement rows belong count = record { count = count; plain = all_plain statement rows belong }
+
+-- ---- all places lie in the source
+
+placed : (len : ℕ) (statement : Span) (rows : List Spanned) → are_rows_of statement rows ≡ true → IsInside len statement → AllByRecursion (IsInside len) (doings rows)
+    → AllByRecursion (IsRowInside len) (map places rows)
+placed len statement [] belong at all = tt
+placed len statement (r ∷ rows) belong at all =
+    let parts = and_parts _ _ belong in
+    ((all.0, subst (IsInside len) (sym (same_span r.checking statement (and_parts _ _ parts.0).1)) at), placed len statement rows parts.1 at all.1)
+
+nips_inside : (len : ℕ) (statement : Span) (n : ℕ) → IsInside len statement → AllByRecursion (IsInside len) (doings (replicate n (nip statement)))
+nips_inside len statement zero at = tt
+nips_inside len statement (suc n) at = (at, nips_inside len statement n at)
+
+behind : (len : ℕ) (rows more : List Spanned) → AllByRecursion (IsInside len) (doings rows) → AllByRecursion (IsInside len) (doings more) → AllByRecursion (IsInside len) (doings (rows ++ more))
+behind len [] more all further = further
+behind len (r ∷ rows) more all further = (all.0, behind len rows more all.1 further)
+
+pub rows_inside : (contract : Contract Slot Ty) (h : IsEmittable contract) (len n : ℕ) (rows all : List Spanned) → IsContractInside len contract → doings rows ≡ told_of h.value
+    → all ≡ rows ++ replicate n (nip h.statement.span) → are_rows_of h.statement.span all ≡ true → AllByRecursion (IsRowInside len) (map places all)
+rows_inside contract h len n rows all inside told is belong =
+    let functions = subst (AllByRecursion (λ f. AllByRecursion (IsStatementInside len) f.body)) h.only inside in
+    let statements = subst (AllByRecursion (IsStatementInside len)) h.body functions.0 in
+    let value = subst (IsKindInside len) h.checks statements.0.1 in
+    let first = subst (AllByRecursion (IsInside len)) (sym told) value in
+    let every = behind len rows (replicate n (nip h.statement.span)) first (nips_inside len h.statement.span n statements.0.0) in
+    placed len h.statement.span all belong statements.0.0 (subst (λ (l : List Spanned). AllByRecursion (IsInside len) (doings l)) (sym is) every)
+
+-- ---- both runs end alike
+
+-- the statement's end by the truth of its value
+abbrev end_by : Bool → Span → Env → Result Env source.Failure
+end_by truth span env = cond truth (Ok env) (fails span CheckFailed) >>= λ next. Ok next
+
+checked_ends : (rows : List SpanRow) (v : List ℕ) (span : Span) (env : Env) (at : Progress) (t : Bool) → truth_of v ≡ t → place_of rows at.last EndFalse ≡ Some span → EndsAs rows (ended (end_by t span env)) (Ok (state (v ∷ []) at))
+checked_ends rows v span env at true is place = (state (v ∷ []) at, refl, (v, refl, is))
+checked_ends rows v span env at false is place = inr (state (v ∷ []) at, refl, (v, refl, is), refl, place)
+
+-- what is left at the end, where the run of the rows ends so
+ends : (statement : Span) (rows : List Spanned) (args : Stack) (env : Env) (r : Result (List ℕ) source.Failure) (end : Result State RowFailure) (outcome : Result State Failure)
+    → are_rows_of statement rows ≡ true → ((s : State) → end ≡ Ok s → s.progress.last < length rows) → Leaves [] r end → Located rows 0 end outcome
+    → EndsAs (map places rows) (ended ((r >>= λ v. checked statement v env) >>= λ next. Ok next)) (outcome >>= λ s. balanced s.board.conditions s)
+ends statement rows args env (Ok v) end outcome all last (at, is) where_ =
+    let ran : outcome ≡ Ok (state (v ∷ []) at) = subst (λ (e : Result State RowFailure). Located rows 0 e outcome) is where_ in
+    let place = end_place statement rows at.last all (last (state (v ∷ []) at) is) in
+    subst (λ (o : Result State Failure). EndsAs (map places rows) (ended (end_by (truth_of v) statement env)) (o >>= λ s. balanced s.board.conditions s)) (sym ran)
+    (checked_ends (map places rows) v statement env at (truth_of v) refl place)
+ends statement rows args env (Err failure) end outcome all last (r, is, place) where_ =
+    let ran : Located rows 0 (Err (record { row = r; cause = Shared failure.cause })) outcome = subst (λ (e : Result State RowFailure). Located rows 0 e outcome) is where_ in
+    let found : place_of (map places rows) ran.0 (Shared failure.cause) ≡ Some failure.span =
+    ap (option_map (λ p. place_in p (Shared failure.cause))) (slice_get-map places rows ran.0 ∙ ap (option_map places) ran.1) ∙ ap Some place in
+    let index : 0 + ran.0 ≡ ran.0 = omega arith in
+    let there : place_of (map places rows) (0 + ran.0) (Shared failure.cause) ≡ Some failure.span =
+    ap (λ (n : ℕ). place_of (map places rows) n (Shared failure.cause)) index ∙ found in
+    subst (λ (o : Result State Failure). EndsAs (map places rows) (ended {A = Env} (Err failure)) (o >>= λ s. balanced s.board.conditions s)) (sym ran.2)
+    (inl (0 + ran.0, refl, there))
+
+-- the run of the source, where the one statement is a require
+outcome_is : (contract : Contract Slot Ty) (h : IsEmittable contract) (args : List (List ℕ)) →
+    source_outcome contract [] h.function args ≡ ended ((value_of h.value (with_values h.function.params args no_values) >>= λ v. checked h.statement.span v (with_values h.function.params args no_values)) >>= λ next. Ok next)
+outcome_is contract h args =
+    let env = with_values h.function.params args no_values in
+    ap (λ ps. ended (env_after_all h.function.body (with_values h.function.params args (with_values ps [] no_values)))) h.alone
+    ∙ ap (λ body. ended (env_after_all body env)) h.body
+    ∙ ap (λ kind. ended (env_after_kind kind h.statement.span env >>= λ next. Ok next)) h.checks
+
+pub decided : (contract : Contract Slot Ty) (h : IsEmittable contract) (rows all : List Spanned) → Follows (length h.function.params) 0 rows (value_of h.value) → all ≡ whole h.statement.span (length h.function.params) rows → are_rows_of h.statement.span all ≡ true → 1 ≤ length all → AgreesByRun contract all
+decided contract h rows all follows is belong some = record {
+  function = h.function;
+  only = h.only;
+  alone = h.alone;
+  few = h.few;
+  spelled = all_spelled h.statement.span all belong;
+  agrees = λ args count elements.
+      let env = with_values h.function.params args no_values in
+      let left = all_left h.statement.span args rows (value_of h.value env) (follows.runs [] args env beginning refl count (holds_args h.function.params args h.slots count)) in
+      let same : whole h.statement.span (length args) rows ≡ all = ap (λ (n : ℕ). whole h.statement.span n rows) count ∙ sym is in
+      let left' = subst (λ (l : List Spanned). Leaves [] (value_of h.value env) (run_rows l (state args beginning))) same left in
+      subst (λ (o : SourceOutcome). EndsAs (map places all) o (run_end (instructions all) args)) (sym (outcome_is contract h args))
+      (ends h.statement.span all args env (value_of h.value env) (run_rows all (state args beginning)) (run (instructions all) (state args beginning)) belong
+      (λ s e. let within = last_within all s (length all - 1) (state args beginning) e (omega arith) (omega (arith, some)) in omega (arith, within, some))
+      left' (located all (state args beginning)));
+}

@@ -1,0 +1,9 @@
+pub mod Accepted
+pub mod Correct
+pub mod Decided
+pub mod Emits
+pub mod FormShape
+pub mod Places
+pub mod Rows
+pub mod Ways
+pub mod Words

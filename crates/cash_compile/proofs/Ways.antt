@@ -1,0 +1,197 @@
+-- A source is accepted as one contract, or refused in one way.
+use Rattle.std.proofs.Common.{◌≡◌, ℕ, ◌<◌, ◌≤◌, List, length, Option, Some, None, Result, Ok, Err, refl, sym, ap, ◌∙◌, subst, arith}
+use Rattle.std.specs.Str.{IsUtf8}
+use Rattle.std.specs.Str.Lossy.{utf8_valid_len}
+use Rattle.cash_base.specs.declared.place.Span.{Span}
+use Rattle.cash_base.specs.declared.place.Slot.{Slot}
+use Rattle.cash_tree.specs.declared.Ty.{Ty}
+use Rattle.cash_tree.specs.declared.Token.{Token}
+use Rattle.cash_tree.specs.declared.Contract.{Contract}
+use Rattle.cash_lexer.specs.declared.fault.LexFault.{LexFault}
+use Rattle.cash_lexer.specs.Tokens.{lexed}
+use Rattle.cash_parser.specs.declared.fault.ParseFault.{ParseFault}
+use Rattle.cash_parser.specs.declared.fault.ParseFault.TheVariants as parser
+use Rattle.cash_parser.specs.declared.fault.DepthRule.{DepthRule}
+use Rattle.cash_parser.specs.Lexemes.{Lexeme, lexemes}
+use Rattle.cash_parser.specs.DepthRules.{deepest_token}
+use Rattle.cash_parser.specs.Files.{Tree, SpellsFile}
+use Rattle.cash_parser.specs.Answer.{IsNone}
+use Rattle.cash_names.specs.declared.fault.NameFault.{NameFault}
+use Rattle.cash_names.specs.Outline.{NamedTree}
+use Rattle.cash_names.specs.Scopes.{IsNamed, first_name_fault}
+use Rattle.cash_names.specs.Answer.{HasNone}
+use Rattle.cash_compile.specs.declared.refusal.Refusal.{Refusal}
+use Rattle.cash_compile.specs.declared.refusal.Refusal.TheVariants.{SourceTooLong, NotUtf8, Lex, Parse, Name, NotBuilt, Memory}
+use Rattle.cash_compile.specs.Form.{first_form}
+use Rattle.cash_compile.specs.Compile.{max_source_len, IsText, HasTokens, HasTree, HasNames, IsAccepted, IsFaultOf, IsRefused, AreSame}
+
+-- tokens with their texts spell at most one tree
+abbrev pub OneTree : Type 0
+OneTree = (ts : List Lexeme) (a b : Tree) → SpellsFile ts a → SpellsFile ts b → a ≡ b
+
+-- what the parser and the resolver give: one tree, one named tree, and none where some place of the tree is refused
+pub record Laws : Type 0 where
+  pub tree : OneTree
+  pub named : (source : List ℕ) (tree : Tree) (a b : NamedTree) → IsNamed source tree a → IsNamed source tree b → a ≡ b
+  pub apart : (source : List ℕ) (tree : Tree) (fault : NameFault) → first_name_fault source tree ≡ Some fault → HasNone source tree
+
+abbrev found : List Token → Result (List Token) LexFault
+found tokens = Ok tokens
+
+abbrev faulty : LexFault → Result (List Token) LexFault
+faulty fault = Err fault
+
+found_same : (a b : List Token) → found a ≡ found b → a ≡ b
+found_same a b same = cc
+
+fault_same : (a b : LexFault) → faulty a ≡ faulty b → a ≡ b
+fault_same a b same = cc
+
+never_same : (a : List Token) (b : LexFault) → found a ≡ faulty b → ⊥
+never_same a b same = cc
+
+one_tokens : (source : List ℕ) (a b : List Token) → HasTokens source a → HasTokens source b → a ≡ b
+one_tokens source a b h k = found_same a b (sym h.found ∙ k.found)
+
+one_tree_of : OneTree → (source : List ℕ) (a b : Tree) → HasTree source a → HasTree source b → a ≡ b
+one_tree_of law source a b h k =
+    law (lexemes source h.tokens) a b h.spelled
+    (subst (λ (ts : List Token). SpellsFile (lexemes source ts) b) (one_tokens source k.tokens h.tokens k.cut h.cut) k.spelled)
+
+one_named_of : Laws → (source : List ℕ) (a b : NamedTree) → HasNames source a → HasNames source b → a ≡ b
+one_named_of laws source a b h k =
+    laws.named source h.tree a b h.names
+    (subst (λ (t : Tree). IsNamed source t b) (one_tree_of laws.tree source k.tree h.tree k.parsed h.parsed) k.names)
+
+pub one_contract_is : Laws → (source : List ℕ) (a b : Contract Slot Ty) → IsAccepted source a → IsAccepted source b → a ≡ b
+one_contract_is laws source a b h k =
+    let same : Some a ≡ Some b = sym h.formed ∙ ap first_form (one_named_of laws source h.named k.named h.resolved k.resolved) ∙ k.formed in
+    cc
+
+-- ---- a stage gives something, or it doesn't
+
+text_or_bytes : (source : List ℕ) → IsText source → (IsUtf8 source → ⊥) → ⊥
+text_or_bytes source text none = none text.utf8
+
+tokens_or_fault : (source : List ℕ) (tokens : List Token) (fault : LexFault) → HasTokens source tokens → lexed source ≡ Err fault → ⊥
+tokens_or_fault source tokens fault h is = never_same tokens fault (sym h.found ∙ is)
+
+shallow_or_deep : (ts : List Lexeme) (deep : DepthRule × Span) → deepest_token ts ≡ None → deepest_token ts ≡ Some deep → ⊥
+shallow_or_deep ts deep none some = let same : None ≡ Some deep = sym none ∙ some in cc
+
+-- a fault of the tokens of a source that has a tree
+fault_or_tree : (source : List ℕ) (tokens : List Token) (tree : Tree) (count : ℕ) (fault : ParseFault) → deepest_token (lexemes source tokens) ≡ None → SpellsFile (lexemes source tokens) tree → IsFaultOf (lexemes source tokens) count fault → ⊥
+fault_or_tree source tokens tree count (parser.TooDeep rule span) shallow spelled is = shallow_or_deep (lexemes source tokens) (rule, span) shallow is
+fault_or_tree source tokens tree count (parser.Syntax token) shallow spelled is = is.1 tree spelled
+fault_or_tree source tokens tree count parser.Memory shallow spelled is = is
+
+tree_or_fault : (source : List ℕ) (tree : Tree) (tokens : List Token) (count : ℕ) (fault : ParseFault) → HasTree source tree → HasTokens source tokens → IsFaultOf (lexemes source tokens) count fault → ⊥
+tree_or_fault source tree tokens count fault h cut is =
+    fault_or_tree source h.tokens tree count fault h.shallow h.spelled
+    (subst (λ (ts : List Token). IsFaultOf (lexemes source ts) count fault) (one_tokens source tokens h.tokens cut h.cut) is)
+
+named_or_fault : Laws → (source : List ℕ) (tree : Tree) (named : NamedTree) (fault : NameFault) → HasNames source named → HasTree source tree → first_name_fault source tree ≡ Some fault → ⊥
+named_or_fault laws source tree named fault h k is =
+    laws.apart source tree fault is named
+    (subst (λ (t : Tree). IsNamed source t named) (one_tree_of laws.tree source h.tree tree h.parsed k) h.names)
+
+form_or_none : Laws → (source : List ℕ) (a b : NamedTree) (contract : Contract Slot Ty) → HasNames source a → HasNames source b → first_form a ≡ Some contract → first_form b ≡ None → ⊥
+form_or_none laws source a b contract h k some none =
+    let same : Some contract ≡ None = sym some ∙ ap first_form (one_named_of laws source a b h k) ∙ none in
+    cc
+
+pub never_both_are : Laws → (source : List ℕ) (contract : Contract Slot Ty) (refusal : Refusal) → IsAccepted source contract → IsRefused source refusal → ⊥
+never_both_are laws source contract (SourceTooLong bytes) h r = let short = h.resolved.parsed.cut.text.short in let long = r.0 in omega arith
+never_both_are laws source contract (NotUtf8 at) h r = text_or_bytes source h.resolved.parsed.cut.text r.1
+never_both_are laws source contract (Lex fault) h r = tokens_or_fault source h.resolved.parsed.tokens fault h.resolved.parsed.cut r.1
+never_both_are laws source contract (Parse fault) h r = tree_or_fault source h.resolved.tree r.0 (length r.0) fault h.resolved.parsed r.1 r.2
+never_both_are laws source contract (Name fault) h r = named_or_fault laws source r.0 h.named fault h.resolved r.1 r.2
+never_both_are laws source contract (NotBuilt span) h r = form_or_none laws source h.named r.0 contract h.resolved r.1 h.formed r.2
+never_both_are laws source contract Memory h r = r
+
+-- ---- the one refusal of each stage
+
+from_long : (source : List ℕ) (b : Refusal) → max_source_len < length source → IsRefused source b → SourceTooLong (length source) ≡ b
+from_long source (SourceTooLong bytes) long r = ap (λ (n : ℕ). SourceTooLong n) (sym r.1)
+from_long source (NotUtf8 at) long r = let short = r.0 in absurd (omega arith)
+from_long source (Lex fault) long r = let short = r.0.short in absurd (omega arith)
+from_long source (Parse fault) long r = let short = r.1.text.short in absurd (omega arith)
+from_long source (Name fault) long r = let short = r.1.cut.text.short in absurd (omega arith)
+from_long source (NotBuilt span) long r = let short = r.1.parsed.cut.text.short in absurd (omega arith)
+from_long source Memory long r = absurd r
+
+from_bytes : (source : List ℕ) (b : Refusal) → length source ≤ max_source_len → (IsUtf8 source → ⊥) → IsRefused source b → NotUtf8 (utf8_valid_len source) ≡ b
+from_bytes source (SourceTooLong bytes) short none r = let long = r.0 in absurd (omega arith)
+from_bytes source (NotUtf8 at) short none r = ap (λ (n : ℕ). NotUtf8 n) (sym r.2)
+from_bytes source (Lex fault) short none r = absurd (text_or_bytes source r.0 none)
+from_bytes source (Parse fault) short none r = absurd (text_or_bytes source r.1.text none)
+from_bytes source (Name fault) short none r = absurd (text_or_bytes source r.1.cut.text none)
+from_bytes source (NotBuilt span) short none r = absurd (text_or_bytes source r.1.parsed.cut.text none)
+from_bytes source Memory short none r = absurd r
+
+from_lexer : (source : List ℕ) (fault : LexFault) (b : Refusal) → IsText source → lexed source ≡ Err fault → IsRefused source b → Lex fault ≡ b
+from_lexer source fault (SourceTooLong bytes) text is r = let short = text.short in let long = r.0 in absurd (omega arith)
+from_lexer source fault (NotUtf8 at) text is r = absurd (text_or_bytes source text r.1)
+from_lexer source fault (Lex other) text is r = ap (λ (f : LexFault). Lex f) (fault_same fault other (sym is ∙ r.1))
+from_lexer source fault (Parse other) text is r = absurd (tokens_or_fault source r.0 fault r.1 is)
+from_lexer source fault (Name other) text is r = absurd (tokens_or_fault source r.1.tokens fault r.1.cut is)
+from_lexer source fault (NotBuilt span) text is r = absurd (tokens_or_fault source r.1.parsed.tokens fault r.1.parsed.cut is)
+from_lexer source fault Memory text is r = absurd r
+
+deep_same : (a b : DepthRule × Span) → Some a ≡ Some b → a ≡ b
+deep_same a b same = cc
+
+-- two faults of the same tokens
+faults_same : (ts : List Lexeme) (count : ℕ) (a b : ParseFault) → IsFaultOf ts count a → IsFaultOf ts count b → AreSame (Parse a) (Parse b)
+faults_same ts count (parser.TooDeep rule span) (parser.TooDeep rule' span') h k =
+    ap (λ (deep : DepthRule × Span). Parse (parser.TooDeep deep.0 deep.1)) (deep_same (rule, span) (rule', span') (sym h ∙ k))
+faults_same ts count (parser.TooDeep rule span) (parser.Syntax token) h k = absurd (shallow_or_deep ts (rule, span) k.0 h)
+faults_same ts count (parser.TooDeep rule span) parser.Memory h k = absurd k
+faults_same ts count (parser.Syntax token) (parser.TooDeep rule span) h k = absurd (shallow_or_deep ts (rule, span) h.0 k)
+faults_same ts count (parser.Syntax token) (parser.Syntax other) h k = tt
+faults_same ts count (parser.Syntax token) parser.Memory h k = absurd k
+faults_same ts count parser.Memory b h k = absurd h
+
+from_parser : (source : List ℕ) (tokens : List Token) (fault : ParseFault) (b : Refusal) → HasTokens source tokens → IsFaultOf (lexemes source tokens) (length tokens) fault → IsRefused source b → AreSame (Parse fault) b
+from_parser source tokens fault (SourceTooLong bytes) cut is r = let short = cut.text.short in let long = r.0 in absurd (omega arith)
+from_parser source tokens fault (NotUtf8 at) cut is r = absurd (text_or_bytes source cut.text r.1)
+from_parser source tokens fault (Lex other) cut is r = absurd (tokens_or_fault source tokens other cut r.1)
+from_parser source tokens fault (Parse other) cut is r =
+    let P : List Token → Type 0 = λ ts. IsFaultOf (lexemes source ts) (length ts) other in
+    faults_same (lexemes source tokens) (length tokens) fault other is (subst P (one_tokens source r.0 tokens r.1 cut) r.2)
+from_parser source tokens fault (Name other) cut is r = absurd (tree_or_fault source r.0 tokens (length tokens) fault r.1 cut is)
+from_parser source tokens fault (NotBuilt span) cut is r = absurd (tree_or_fault source r.1.tree tokens (length tokens) fault r.1.parsed cut is)
+from_parser source tokens fault Memory cut is r = absurd r
+
+refused_same : (a b : NameFault) → Some a ≡ Some b → a ≡ b
+refused_same a b same = cc
+
+from_names : Laws → (source : List ℕ) (tree : Tree) (fault : NameFault) (b : Refusal) → HasTree source tree → first_name_fault source tree ≡ Some fault → IsRefused source b → Name fault ≡ b
+from_names laws source tree fault (SourceTooLong bytes) h is r = let short = h.cut.text.short in let long = r.0 in absurd (omega arith)
+from_names laws source tree fault (NotUtf8 at) h is r = absurd (text_or_bytes source h.cut.text r.1)
+from_names laws source tree fault (Lex other) h is r = absurd (tokens_or_fault source h.tokens other h.cut r.1)
+from_names laws source tree fault (Parse other) h is r = absurd (tree_or_fault source tree r.0 (length r.0) other h r.1 r.2)
+from_names laws source tree fault (Name other) h is r =
+    let same = ap (λ (t : Tree). first_name_fault source t) (one_tree_of laws.tree source tree r.0 h r.1) in
+    ap (λ (f : NameFault). Name f) (refused_same fault other (sym is ∙ same ∙ r.2))
+from_names laws source tree fault (NotBuilt span) h is r = absurd (named_or_fault laws source tree r.0 fault r.1 h is)
+from_names laws source tree fault Memory h is r = absurd r
+
+from_form : Laws → (source : List ℕ) (named : NamedTree) (b : Refusal) → HasNames source named → first_form named ≡ None → IsRefused source b → NotBuilt named.span ≡ b
+from_form laws source named (SourceTooLong bytes) h none r = let short = h.parsed.cut.text.short in let long = r.0 in absurd (omega arith)
+from_form laws source named (NotUtf8 at) h none r = absurd (text_or_bytes source h.parsed.cut.text r.1)
+from_form laws source named (Lex fault) h none r = absurd (tokens_or_fault source h.parsed.tokens fault h.parsed.cut r.1)
+from_form laws source named (Parse fault) h none r = absurd (tree_or_fault source h.tree r.0 (length r.0) fault h.parsed r.1 r.2)
+from_form laws source named (Name fault) h none r = absurd (named_or_fault laws source r.0 named fault h r.1 r.2)
+from_form laws source named (NotBuilt span) h none r =
+    ap (λ (t : NamedTree). NotBuilt t.span) (one_named_of laws source named r.0 h r.1) ∙ ap (λ (s : Span). NotBuilt s) (sym r.3)
+from_form laws source named Memory h none r = absurd r
+
+pub one_refusal_is : Laws → (source : List ℕ) (a b : Refusal) → IsRefused source a → IsRefused source b → AreSame a b
+one_refusal_is laws source (SourceTooLong bytes) b h k = ap (λ (n : ℕ). SourceTooLong n) h.1 ∙ from_long source b h.0 k
+one_refusal_is laws source (NotUtf8 at) b h k = ap (λ (n : ℕ). NotUtf8 n) h.2 ∙ from_bytes source b h.0 h.1 k
+one_refusal_is laws source (Lex fault) b h k = from_lexer source fault b h.0 h.1 k
+one_refusal_is laws source (Parse fault) b h k = from_parser source h.0 fault b h.1 h.2 k
+one_refusal_is laws source (Name fault) b h k = from_names laws source h.0 fault b h.1 h.2 k
+one_refusal_is laws source (NotBuilt span) b h k = ap (λ (s : Span). NotBuilt s) h.3 ∙ from_form laws source h.0 b h.1 h.2 k
+one_refusal_is laws source Memory b h k = absurd h

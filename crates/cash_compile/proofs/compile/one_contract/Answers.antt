@@ -1,0 +1,7 @@
+use Rattle.cash_compile.proofs.Ways.{Laws, one_contract_is}
+use Rattle.cash_compile.proofs.compile.one_contract.Goals as goal
+
+pub returns : goal.returns
+returns c =
+    let laws : Laws = record { tree = c.one_tree.ensures; named = c.one_answer.ensures.one; apart = c.one_answer.ensures.apart } in
+    one_contract_is laws

@@ -1,0 +1,104 @@
+//! From a source to the program of its contract.
+
+ghost use Rattle.std.specs.Prelude.{◌≡◌, ◌≢◌, ◌^◌, ◌<◌, ℕ, List, length, map, IfOk, IfErr};
+ghost use Rattle.std.specs.List.{AllByRecursion};
+ghost use Rattle.cash_base.specs.declared.place.Slot.{Slot};
+ghost use Rattle.cash_tree.specs.declared.Ty.{Ty};
+ghost use Rattle.cash_tree.specs.declared.Contract.{Contract as CashContract};
+ghost use Rattle.artifact_json.specs.Artifact.{HasFewInputs};
+ghost use Rattle.cash_compile.specs.declared.refusal.Refusal.{Refusal as Cause};
+ghost use Rattle.cash_compile.specs.declared.refusal.Refusal.TheVariants.{Memory as WithoutMemory};
+ghost use Rattle.cash_compile.specs.Rows.{places, AreFew};
+ghost use Rattle.cash_compile.specs.Describes.{IsRowInside};
+ghost use Rattle.cash_compile.specs.Decides.{AgreesByRun};
+ghost use Rattle.cash_compile.specs.Correct.{IsCorrect};
+ghost use Rattle.cash_compile.specs.Compile.{IsAccepted, IsCompiled, IsRefused, AreSame};
+
+use crate::describe::program_of;
+use crate::emission::emit;
+use crate::form::first_form;
+use crate::reading::named_tree_of;
+use crate::refusal::Refusal;
+use artifact_json::Program;
+use bch_vm::laws::spend_is_decided;
+use cash_base::Memory;
+use cash_lexer::tokens_cut_the_source;
+use cash_names::one_answer;
+use cash_parser::one_tree;
+use cash_tree::TypedContract;
+use script_codec::Spanned;
+use script_codec::laws::{meaning_of_spelled, reading_behind_encoded, reading_in_turn};
+use std::alloc::Global;
+
+/// A contract and its program.
+#[derive(Drop)]
+pub struct Compiled {
+    pub program: Program,
+    pub contract: TypedContract,
+}
+
+/// The contract that a source stands for, and a program that is correct for it.
+///
+/// Each spend that is built of the program ends as the run of the source: accepted where the run is met, and otherwise
+/// refused in the redeem script, with the cause and at the place of the run's failure. Each refusal comes
+/// exactly where its cause stands in the source, in the order of [`Refusal`]: the length, UTF-8, the tokens, how deep
+/// they nest, the tree, its pragmas and names, and the form that is built so far. Memory may be wanting at any time.
+#[tactic(auto, using(crate::proofs::Accepted::equality_emittable))]
+pub fn compile(alloc: Global, source: &[u8]) -> Result<Compiled, Refusal>
+    requires { length source.now < 2 ^ 32 }
+    ensures compiled { IfOk result (λ compiled. IsCompiled source.now compiled) }
+    ensures few { IfOk result (λ compiled. HasFewInputs compiled.program) }
+    ensures refused { IfErr result (λ refusal. refusal ≢ WithoutMemory → IsRefused source.now refusal) }
+{
+    let named = named_tree_of(alloc, source)?;
+    let Some(contract) = first_form(alloc, &named)? else {
+        return Err(Refusal::NotBuilt { span: named.span });
+    };
+    let rows = emit(alloc, &contract)?;
+    let program = correct_program(alloc, source, &contract, rows)?;
+    Ok(Compiled { program, contract })
+}
+
+/// The program of rows whose runs agree with those of a contract is correct.
+fn correct_program(
+    alloc: Global,
+    source: &[u8],
+    contract: &TypedContract,
+    rows: Vec<Spanned>,
+) -> Result<Program, Memory>
+    requires accepted { IsAccepted source.now contract.now }
+    requires agrees { AgreesByRun contract.now rows.items }
+    requires few { AreFew rows.items }
+    requires inside { AllByRecursion (IsRowInside (length source.now)) (map places rows.items) }
+    ensures correct { IfOk result (λ program. IsCorrect source.now contract.now program) }
+    ensures few { IfOk result (λ program. HasFewInputs program) }
+{
+    tokens_cut_the_source();
+    spend_is_decided();
+    reading_in_turn();
+    reading_behind_encoded();
+    meaning_of_spelled();
+    let program = program_of(alloc, source, contract, rows)?;
+    Ok(program)
+}
+
+/// A source stands for at most one contract.
+pub fn one_contract()
+    ensures { (source : List ℕ) (a b : CashContract Slot Ty) →
+        IsAccepted source a → IsAccepted source b → a ≡ b }
+{
+    one_tree();
+    one_answer();
+}
+
+/// A source is accepted or refused, and not both; and it is refused in one way only, but for the token that a Syntax
+/// names.
+pub fn one_way()
+    ensures never_both { (source : List ℕ) (contract : CashContract Slot Ty) (refusal : Cause) →
+        IsAccepted source contract → IsRefused source refusal → ⊥ }
+    ensures one_refusal { (source : List ℕ) (a b : Cause) →
+        IsRefused source a → IsRefused source b → AreSame a b }
+{
+    one_tree();
+    one_answer();
+}

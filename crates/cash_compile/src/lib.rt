@@ -1,0 +1,15 @@
+//! From a source to the program of its contract, or why there is none: reading, the form that is built so far, emission,
+//! and what a program tells of its contract.
+#![tactic(auto)]
+
+pub mod compile;
+mod describe;
+pub mod emission;
+mod form;
+pub mod reading;
+pub mod refusal;
+#[cfg(test)]
+mod run_tests;
+
+pub use reading::MAX_SOURCE_LEN;
+pub use refusal::Refusal;

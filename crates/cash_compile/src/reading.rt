@@ -1,0 +1,92 @@
+//! From a source to its named tree, stage by stage.
+
+ghost use Rattle.std.specs.Prelude.{◌≡◌, ◌≢◌, ◌≤◌, ◌<◌, ◌^◌, length, IfOk, IfErr};
+ghost use Rattle.cash_compile.specs.declared.refusal.Refusal.TheVariants.{Memory};
+ghost use Rattle.cash_base.specs.declared.place.Slot.{Slot};
+ghost use Rattle.cash_tree.specs.declared.Ty.{Ty};
+ghost use Rattle.cash_tree.specs.declared.Contract.{Contract as CashContract};
+ghost use Rattle.cash_parser.specs.Inside.{AreInside, tree_spans};
+ghost use Rattle.cash_compile.specs.Form.{first_form};
+ghost use Rattle.cash_compile.specs.Emission.{IsContractInside};
+ghost use Rattle.cash_compile.specs.Compile.{IsText, HasTokens, HasTree, HasNames, IsRefused};
+
+use crate::refusal::Refusal;
+use cash_lexer::LexFault;
+use cash_names::{NameFault, resolve};
+use cash_parser::{ParseFault, parse, spans_come_apart, tokens_stand_in_order};
+use cash_tree::{NamedTree, Token, Tree};
+use std::alloc::Global;
+
+/// The most bytes of a source.
+pub const MAX_SOURCE_LEN: usize = 65_536;
+
+/// The text of a source.
+fn text_of(source: &[u8]) -> Result<&str, Refusal>
+    requires { length source.now < 2 ^ 32 }
+    ensures text { IfOk result (λ text. (text.now ≡ source.now) × IsText source.now) }
+    ensures refused { IfErr result (λ refusal. IsRefused source.now refusal) }
+{
+    if source.len() > MAX_SOURCE_LEN {
+        let bytes = source.len() as u32;
+        return Err(Refusal::SourceTooLong { bytes });
+    }
+    match str::from_utf8(source) {
+        Ok(text) => Ok(text),
+        Err(e) => {
+            let at = e.valid_up_to() as u32;
+            Err(Refusal::NotUtf8 { at })
+        }
+    }
+}
+
+/// The tokens of a text.
+fn tokens_of(alloc: Global, text: &str) -> Result<Vec<Token>, Refusal>
+    requires { IsText text.now }
+    ensures cut { IfOk result (λ tokens. HasTokens text.now tokens.items) }
+    ensures refused { IfErr result (λ refusal. refusal ≢ Memory → IsRefused text.now refusal) }
+{
+    match cash_lexer::tokens(alloc, text) {
+        Ok(tokens) => Ok(tokens),
+        Err(LexFault::Memory) => Err(Refusal::Memory),
+        Err(fault) => Err(Refusal::Lex(fault)),
+    }
+}
+
+/// The tree of a text.
+fn tree_of(alloc: Global, text: &str) -> Result<Tree, Refusal>
+    requires { IsText text.now }
+    ensures parsed { IfOk result (λ tree. HasTree text.now tree) }
+    ensures inside { IfOk result (λ tree. AreInside (length text.now) (tree_spans tree)) }
+    ensures refused { IfErr result (λ refusal. refusal ≢ Memory → IsRefused text.now refusal) }
+{
+    tokens_stand_in_order();
+    let tokens = tokens_of(alloc, text)?;
+    match parse(alloc, text, &tokens) {
+        Ok(tree) => Ok(tree),
+        Err(ParseFault::Memory) => Err(Refusal::Memory),
+        Err(fault) => Err(Refusal::Parse(fault)),
+    }
+}
+
+/// The named tree of a source.
+///
+/// # Errors
+///
+/// The refusal of the first stage that gives nothing: `SourceTooLong`, `NotUtf8`, `Lex`, `Parse` and `Name`, each
+/// exactly where its cause stands in the source, or `Memory`, where memory ran out.
+pub fn named_tree_of(alloc: Global, source: &[u8]) -> Result<NamedTree, Refusal>
+    requires { length source.now < 2 ^ 32 }
+    ensures named { IfOk result (λ named. HasNames source.now named) }
+    ensures inside { IfOk result (λ named. (contract : CashContract Slot Ty) → first_form named ≡ Some contract
+        → IsContractInside (length source.now) contract) }
+    ensures refused { IfErr result (λ refusal. refusal ≢ Memory → IsRefused source.now refusal) }
+{
+    spans_come_apart();
+    let text = text_of(source)?;
+    let tree = tree_of(alloc, text)?;
+    match resolve(alloc, text, &tree) {
+        Ok(named) => Ok(named),
+        Err(NameFault::Memory) => Err(Refusal::Memory),
+        Err(fault) => Err(Refusal::Name(fault)),
+    }
+}

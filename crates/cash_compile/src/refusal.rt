@@ -1,0 +1,45 @@
+//! Why a source isn't compiled.
+
+ghost use Rattle.std.specs.Prelude.{◌≡◌};
+ghost use Rattle.cash_compile.specs.declared.refusal.Refusal.TheVariants.{Memory};
+
+use cash_base::{Memory, Span};
+use cash_lexer::LexFault;
+use cash_names::NameFault;
+use cash_parser::ParseFault;
+use std::alloc::AllocError;
+
+/// Why a source isn't compiled: the first stage that gives nothing, in this order.
+#[derive(Clone, Copy, Debug, PartialEq, Eq)]
+pub enum Refusal {
+    /// It is longer than 65,536 bytes: it has so many.
+    SourceTooLong { bytes: u32 },
+    /// It isn't UTF-8; its longest front that is has so many bytes.
+    NotUtf8 { at: u32 },
+    /// It has no tokens. The fault is never want of memory.
+    Lex(LexFault),
+    /// Its tokens give no tree. The fault is never want of memory.
+    Parse(ParseFault),
+    /// A pragma or a name of its tree is refused. The fault is never want of memory.
+    Name(NameFault),
+    /// Its tree isn't of the form that is built so far; the span is that of the contract.
+    NotBuilt { span: Span },
+    /// Memory ran out.
+    Memory,
+}
+
+impl From<Memory> for Refusal {
+    ghost from_gives = { λ _ refusal. refusal ≡ Memory };
+
+    fn from(_e: Memory) -> Refusal {
+        Refusal::Memory
+    }
+}
+
+impl From<AllocError> for Refusal {
+    ghost from_gives = { λ _ refusal. refusal ≡ Memory };
+
+    fn from(_e: AllocError) -> Refusal {
+        Refusal::Memory
+    }
+}

@@ -1,0 +1,216 @@
+-- A report of a program that is correct for a contract tells of the run of the source too.
+use Rattle.std.proofs.Common.{◌≡◌, ℕ, ◌+◌, ◌≤◌, Bool, true, false, cond, List, [], ◌∷◌, ◌++◌, length, map, Option, Some, None, Result, Ok, Err, inl, inr, refl, sym, ap, ◌∙◌, subst, arith}
+use Rattle.std.specs.Prelude.{slice_get, nat_le, ◌==◌, codes}
+use Rattle.std.specs.List.{AllByRecursion}
+use Rattle.std.specs.Fmt.{decimal}
+use Rattle.std.proofs.lemmas.Bool.{eqb-true, leb-true}
+use Rattle.std.proofs.lemmas.List.{length-map}
+use Rattle.cash_base.specs.Failing.{◌>>=◌}
+use Rattle.cash_base.specs.Element.{IsElement}
+use Rattle.cash_base.specs.declared.fault.Cause.{Cause}
+use Rattle.cash_base.specs.declared.fault.MachineCause.{MachineCause}
+use Rattle.cash_base.specs.declared.place.Slot.{Slot}
+use Rattle.cash_base.specs.declared.place.Span.{Span}
+use Rattle.cash_tree.specs.declared.Ty.{Ty}
+use Rattle.cash_tree.specs.declared.Contract.{Contract}
+use Rattle.cash_tree.specs.declared.Function.{Function}
+use Rattle.cash_parser.specs.Lexemes.{text_at}
+use Rattle.source_meaning.specs.declared.outcome.SourceOutcome.{SourceOutcome}
+use Rattle.source_meaning.specs.declared.outcome.SourceOutcome.TheVariants.{Met, Failed}
+use Rattle.source_meaning.specs.Meaning.{source_outcome}
+use Rattle.tx_context.specs.Limits.{IsFrame}
+use Rattle.tx_context.specs.Table.{IsTable}
+use Rattle.tx_context.specs.World.{filled_context}
+use Rattle.bch_vm.specs.declared.outcome.Which.TheVariants.{Unlocking, Locking, Redeem}
+use Rattle.bch_vm.specs.declared.outcome.MachineOutcome.{MachineOutcome}
+use Rattle.bch_vm.specs.declared.outcome.MachineOutcome.TheVariants.{Accepted, Refused}
+use Rattle.bch_vm.specs.Law.{locking_script}
+use Rattle.bch_vm.specs.Spend.{spend_outcome}
+use Rattle.span_map.specs.declared.SpanRow.{SpanRow}
+use Rattle.span_map.specs.Lines.{line_col}
+use Rattle.span_map.specs.Places.{place_of}
+use Rattle.artifact_json.specs.Artifact.{Artifact, AbiCall}
+use Rattle.unlocker.specs.declared.BuildFault.{BuildFault}
+use Rattle.unlocker.specs.declared.BuildFault.TheVariants.{WrongCount, RedeemTooLong}
+use Rattle.unlocker.specs.Scripts.{redeem_script, spending_script}
+use Rattle.unlocker.specs.Building.{capped, count_check, chosen_function, built_unlocking}
+use Rattle.spend_debug.specs.declared.spends.SpendStop.{SpendStop}
+use Rattle.spend_debug.specs.SpendLines.{spend_elements}
+use Rattle.spend_debug.specs.SpendDebug.{SpendParts, plain_frame, or_stop, built_scripts, outcome_of, told_of}
+use Rattle.spend_debug.specs.Telling.{Told, LineCol, at_place, told_place, told_name, cause_name, verdict_line}
+use Rattle.cash_compile.specs.Describes.{described_function}
+use Rattle.cash_compile.specs.Correct.{Admits, IsSameCause, Agrees, IsCorrect}
+use Rattle.cashc.specs.TopCall.{plain_spend, IsVerdict, IsJudged, report}
+use Rattle.cashc.specs.Answering.{outcome_status, report_status, placed_report}
+
+-- ---- scripts that are built
+
+abbrev Scripts : Type 0
+Scripts = List ℕ × List ℕ
+
+abbrev counted : Result (Unit {0}) BuildFault
+counted = Ok tt
+
+by_redeem : (t u : Bool) (s : List ℕ) (miscounted long : BuildFault) (then_ : List ℕ → Result Scripts SpendStop) (built : Scripts)
+    → (or_stop (cond t counted (Err miscounted) >>= λ c. cond u (Ok s) (Err long)) >>= then_) ≡ Ok built
+    → (t ≡ true) × (u ≡ true) × (then_ s ≡ Ok built)
+by_redeem true true s miscounted long then_ built is = (refl, refl, is)
+by_redeem true false s miscounted long then_ built is = absurd cc
+by_redeem false u s miscounted long then_ built is = absurd cc
+
+by_args : (t : Bool) (s redeem : List ℕ) (miscounted : BuildFault) (built : Scripts)
+    → (or_stop (cond t counted (Err miscounted) >>= λ c. Ok s) >>= λ unlocking. Ok (redeem, unlocking)) ≡ Ok built → t ≡ true
+by_args true s redeem miscounted built is = refl
+by_args false s redeem miscounted built is = absurd cc
+
+by_function : (found : Option AbiCall) (args : List (List ℕ)) (s redeem : List ℕ) (built : Scripts)
+    → (or_stop (chosen_function found >>= λ function. count_check (length function.inputs) (length args) >>= λ counted. Ok s) >>= λ unlocking. Ok (redeem, unlocking)) ≡ Ok built
+    → (function : AbiCall) × (found ≡ Some function) × (length function.inputs ≡ length args)
+by_function (Some function) args s redeem built is = (
+  function,
+  refl,
+  eqb-true (length function.inputs) (length args)
+      (by_args (length function.inputs == length args) s redeem (WrongCount (capped (length function.inputs)) (capped (length args))) built is),
+)
+by_function None args s redeem built is = absurd cc
+
+-- the redeem script can be pushed, and there is a function with as many parameters as there are arguments
+record Fits (program : Artifact) (args : List (List ℕ)) : Type 0 where
+  pub size : length (redeem_script program.code []) ≤ 520
+  pub function : AbiCall
+  pub found : slice_get program.abi 0 ≡ Some function
+  pub arg_count : length function.inputs ≡ length args
+
+fits : (program : Artifact) (args : List (List ℕ)) (built : Scripts) → built_scripts program (plain_spend args) ≡ Ok built → Fits program args
+fits program args built is =
+    let redeem = redeem_script program.code [] in
+    let parts = by_redeem (length program.ctor == 0) (nat_le (length redeem) 520) redeem (WrongCount (capped (length program.ctor)) (capped 0))
+    (RedeemTooLong (capped (length redeem)))
+    (λ r. or_stop (built_unlocking program 0 args r) >>= λ unlocking. Ok (r, unlocking)) built is in
+    let called = by_function (slice_get program.abi 0) args (spending_script (length program.abi) 0 args redeem) redeem built parts.2 in
+    record {
+      size = leb-true (length redeem) 520 parts.1;
+      function = called.0;
+      found = called.1;
+      arg_count = called.2;
+    }
+
+-- ---- the program beside its contract
+
+same_call : (a b : AbiCall) (abi : List AbiCall) → abi ≡ a ∷ [] → slice_get abi 0 ≡ Some b → a ≡ b
+same_call a b abi is found = let first : Some a ≡ Some b = ap (λ (l : List AbiCall). slice_get l 0) (sym is) ∙ found in cc
+
+abi_is : (source : List ℕ) (contract : Contract Slot Ty) (program : Artifact) (h : IsCorrect source contract program)
+    → program.abi ≡ described_function (text_at source) h.decides.function ∷ []
+abi_is source contract program h = h.describes.abi ∙ ap (map (described_function (text_at source))) h.decides.only
+
+-- what a correct program asks for is what its contract does
+pub admitted : (source : List ℕ) (contract : Contract Slot Ty) (program : Artifact) (h : IsCorrect source contract program) (args : List (List ℕ)) (built : Scripts)
+    → built_scripts program (plain_spend args) ≡ Ok built → AllByRecursion IsElement args
+    → Admits contract program.code [] 0 h.decides.function args
+admitted source contract program h args built is elements =
+    let f = h.decides.function in
+    let fit = fits program args built is in
+    let same = same_call (described_function (text_at source) f) fit.function program.abi (abi_is source contract program h) fit.found in
+    record {
+      ctor_count = sym (ap length h.decides.alone);
+      found = ap (λ (fs : List (Function Slot Ty)). slice_get fs 0) h.decides.only;
+      arg_count = sym fit.arg_count ∙ ap (λ (c : AbiCall). length c.inputs) (sym same) ∙ length-map f.params _;
+      ctor_elements = tt;
+      arg_elements = elements;
+      size = fit.size;
+    }
+
+-- ---- the verdict
+
+same_name : (cause : MachineCause) (fault : Cause) (place : LineCol) → IsSameCause cause fault → told_name cause (Some place) ≡ cause_name fault
+same_name cause fault place (inl is) = ap (λ (c : MachineCause). told_name c (Some place)) is
+same_name cause fault place (inr is) = ap (λ (c : MachineCause). told_name c (Some place)) is.0 ∙ ap cause_name (sym is.1)
+
+abbrev refused_line : LineCol → List ℕ → ℕ → List ℕ
+refused_line place name at =
+    codes "refused " ++ at_place place ++ codes " " ++ name ++ codes " opcode " ++ decimal at ++ codes "\n"
+
+pub verdict_told : (source : List ℕ) (rows : List SpanRow) (run : SourceOutcome) (outcome : MachineOutcome) (place : Option Span) → Agrees rows 0 outcome run
+    → ((at : ℕ) (cause : MachineCause) (span : Span) → outcome ≡ Refused Redeem (0 + at) cause → place_of rows at cause ≡ Some span → place ≡ Some span)
+    → IsVerdict source run outcome (outcome_status outcome) (verdict_line outcome (told_place source place))
+verdict_told source rows Met Accepted place agrees placed = (refl, refl)
+verdict_told source rows (Failed span fault) (Refused Redeem at cause) place agrees placed =
+    let index : at ≡ 0 + agrees.0.0 = agrees.0.1 in
+    let known : place ≡ Some span = placed agrees.0.0 cause span (ap (λ (n : ℕ). Refused Redeem n cause) index) agrees.0.2 in
+    let p : LineCol = line_col source span.from in (
+      refl,
+      ap (λ (o : Option Span). verdict_line (Refused Redeem at cause) (told_place source o)) known
+          ∙ ap (λ (name : List ℕ). refused_line p name at) (same_name cause fault p agrees.1),
+    )
+verdict_told source rows Met (Refused Unlocking at cause) place agrees placed = absurd agrees
+verdict_told source rows Met (Refused Locking at cause) place agrees placed = absurd agrees
+verdict_told source rows Met (Refused Redeem at cause) place agrees placed = absurd agrees
+verdict_told source rows (Failed span fault) Accepted place agrees placed = absurd agrees
+verdict_told source rows (Failed span fault) (Refused Unlocking at cause) place agrees placed = absurd agrees
+verdict_told source rows (Failed span fault) (Refused Locking at cause) place agrees placed = absurd agrees
+
+-- ---- the report
+
+-- the law of places: a refusal in the redeem script is told at its row
+abbrev pub PlacedLaw : Type 0
+PlacedLaw = (program : Artifact) (spend : SpendParts) (rows : List SpanRow) (at : ℕ) (cause : MachineCause) (span : Span)
+    → program.spans ≡ Some rows → outcome_of program spend ≡ Refused Redeem (length spend.ctor + at) cause → place_of rows at cause ≡ Some span
+    → (told_of program spend).place ≡ Some span
+
+-- the unlocking script and the outcome of a contract of so many functions
+abbrev unlocking_of : Artifact → List (List ℕ) → ℕ → List ℕ
+unlocking_of program args functions = spending_script functions 0 args (redeem_script program.code [])
+
+abbrev outcome_with : Artifact → List (List ℕ) → ℕ → MachineOutcome
+outcome_with program args functions =
+    spend_outcome (filled_context plain_frame (locking_script (redeem_script program.code [])) (unlocking_of program args functions)) []
+
+pub told : (law : PlacedLaw) (source : List ℕ) (contract : Contract Slot Ty) (program : Artifact) (h : IsCorrect source contract program)
+    (spend : List ℕ) (args : List (List ℕ)) (built : Scripts) → spend_elements spend ≡ Ok args → AllByRecursion IsElement args
+    → IsFrame plain_frame → IsTable [] → built_scripts program (plain_spend args) ≡ Ok built
+    → (t : Told) → t ≡ told_of program (plain_spend args)
+    → IsJudged source contract program spend (report_status t) (placed_report source t)
+told law source contract program h spend args built read elements frame table is t same =
+    let f = h.decides.function in
+    let run = source_outcome contract [] f args in
+    let fit = admitted source contract program h args built is elements in
+    let count : length program.abi ≡ length contract.functions = ap length h.describes.abi ∙ length-map contract.functions _ in
+    let agrees : Agrees h.rows 0 (outcome_with program args (length program.abi)) run =
+    subst (λ (n : ℕ). Agrees h.rows 0 (outcome_with program args n) run) (sym count) (h.agrees [] 0 f args plain_frame [] fit frame table) in
+    let whole : Told = told_of program (plain_spend args) in
+    let line = verdict_line whole.outcome (told_place source whole.place) in
+    let verdict = verdict_told source h.rows run (outcome_with program args (length program.abi)) whole.place agrees
+    (λ at cause span refused placed. law program (plain_spend args) h.rows at cause span h.describes.placed refused placed) in
+    subst (λ (u : Told). IsJudged source contract program spend (report_status u) (placed_report source u)) (sym same) (record {
+      args = args;
+      read = read;
+      function = f;
+      only = h.decides.only;
+      admitted = fit;
+      line = line;
+      verdict = subst (λ (n : ℕ). IsVerdict source run (outcome_with program args n) (report_status whole) line) count verdict;
+      shown = ap (λ (n : ℕ). report (redeem_script program.code []) (unlocking_of program args n) line) count;
+    })
+
+-- the transaction of which nothing is given is a frame
+pub plain_is_frame : IsFrame plain_frame
+plain_is_frame = record {
+  version = omega arith;
+  locktime = omega arith;
+  input_count = omega arith;
+  output_count = omega arith;
+  active = omega arith;
+  numbers = refl;
+  input_values = refl;
+  output_values = refl;
+  input_bytecodes = refl;
+  output_bytecodes = refl;
+}
+
+-- what is shown is a report that was judged
+pub same_output : (source : List ℕ) (contract : Contract Slot Ty) (program : Artifact) (spend : List ℕ) (status judged_status : ℕ) (text judged_text : List ℕ)
+    → status ≡ judged_status → text ≡ judged_text → IsJudged source contract program spend judged_status judged_text → IsJudged source contract program spend status text
+same_output source contract program spend status judged_status text judged_text same is judged =
+    subst (λ (n : ℕ). IsJudged source contract program spend n text) (sym same)
+    (subst (λ (t : List ℕ). IsJudged source contract program spend judged_status t) (sym is) judged)

@@ -1,7 +1,0 @@
-use Rattle.cashc.proofs.Ways.{Laws, never_both_are, one_refusal_is}
-use Rattle.cashc.proofs.compile.one_way.Goals as goal
-
-pub returns : goal.returns
-returns c =
-    let laws : Laws = record { tree = c.one_tree.ensures; named = c.one_answer.ensures.one; apart = c.one_answer.ensures.apart } in
-    record { never_both = never_both_are laws; one_refusal = one_refusal_is laws }

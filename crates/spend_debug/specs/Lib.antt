@@ -1,0 +1,3 @@
+pub mod SpendDebug
+pub mod SpendLines
+pub mod Telling
