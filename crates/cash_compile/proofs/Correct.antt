@@ -1,6 +1,6 @@
 -- Rows whose run agrees with the source's run make correct code: the spend of each pair of built scripts agrees with it.
-use Rattle.std.proofs.Common.{◌≡◌, ◌≢◌, eqb, ℕ, ◌+◌, ◌*◌, ◌≤◌, ◌<◌, ◌⊎◌, inl, inr, Bool, true, false, cond, List, [], ◌∷◌, ◌++◌, length, map, reverse, zero, suc, ◌/◌, ◌%◌, Option, Some, Result, Ok, Err, pos, refl, sym, ap, ◌∙◌, subst, arith}
-use Rattle.std.specs.Prelude.{slice_get, slice_index_or, IsTrue, not, nat_lt, nat_le, ◌==◌, ◌&&◌, if◌then◌else◌, unwrap_or}
+use Rattle.std.proofs.Common.{◌≡◌, ◌≢◌, eqb, ℕ, ◌+◌, ◌*◌, ◌≤◌, ◌<◌, ◌⊎◌, inl, inr, Bool, true, false, cond, List, [], ◌∷◌, ◌++◌, length, map, reverse, zero, suc, ◌/◌, ◌%◌, Option, Some, Result, Ok, refl, sym, ap, ◌∙◌, subst, arith}
+use Rattle.std.specs.Prelude.{slice_get, slice_index_or, IsTrue, nat_lt, nat_le, ◌==◌, ◌&&◌, if◌then◌else◌, unwrap_or}
 use Rattle.std.specs.List.{AllByRecursion, list_all, enumerate_from}
 use Rattle.std.proofs.lemmas.Bool.{and_parts, eq-eqb, or_from, false≢true}
 use Rattle.std.proofs.lemmas.Bool.Decides.{eqb_tells}
@@ -10,11 +10,8 @@ use Rattle.std.specs.Str.{IsUtf8}
 use Rattle.std.specs.Str.Lossy.{utf8_lossy}
 use Rattle.std.proofs.lemmas.Str.{utf8_lossy-IsUtf8}
 use mathlib.Core.List.{reverse_aux}
-use Rattle.cash_base.specs.declared.fault.Cause.{Cause}
-use Rattle.cash_base.specs.declared.fault.MachineCause.{MachineCause}
-use Rattle.cash_base.specs.declared.fault.MachineCause.TheVariants.{Shared, EndFalse}
+use Rattle.cash_base.specs.declared.fault.MachineCause.TheVariants.{EndFalse}
 use Rattle.cash_base.specs.declared.place.Slot.{Slot}
-use Rattle.cash_base.specs.declared.place.Span.{Span}
 use Rattle.cash_base.specs.Element.{IsElement}
 use Rattle.cash_base.specs.Number.{truth_of}
 use Rattle.cash_tree.specs.declared.Ty.{Ty}
@@ -28,10 +25,9 @@ use Rattle.tx_context.specs.Limits.{IsFrame}
 use Rattle.tx_context.specs.World.{filled_input, filled_inputs, filled_context}
 use Rattle.tx_context.specs.Table as verdict
 use Rattle.script_codec.specs.declared.instr.Instr.{Instr}
-use Rattle.script_codec.specs.declared.instr.Instr.TheVariants.{Push, Do}
 use Rattle.script_codec.specs.declared.spans.Spanned.{Spanned}
 use Rattle.script_codec.specs.Reading.{Raw, Piece, Whole, reading, spelled, instruction, is_minimal, size_of, push}
-use Rattle.script_codec.specs.Spelling.{are_instructions, is_instruction, spelling, spellings, minimal_push, short_push, push_prefix}
+use Rattle.script_codec.specs.Spelling.{are_instructions, is_instruction, spelling, spellings, minimal_push, push_prefix}
 use Rattle.script_codec.specs.Counting.{takes_keys, keys_for, keys_pushed, weight, counted_in}
 use Rattle.bch_vm.specs.declared.failure.Failure.{Failure}
 use Rattle.bch_vm.specs.declared.outcome.Which.TheVariants.{Redeem}
@@ -40,10 +36,9 @@ use Rattle.bch_vm.specs.declared.outcome.MachineOutcome.TheVariants.{Accepted, R
 use Rattle.bch_vm.specs.Stack.{Stack}
 use Rattle.bch_vm.specs.Script.{State, run_end, stack_at_end}
 use Rattle.bch_vm.specs.Course.{Course, Gives, Stops, ◌>>◌, outcome_of}
-use Rattle.bch_vm.specs.Spend.{spent_input, top_check, clean, spend_outcome}
+use Rattle.bch_vm.specs.Spend.{top_check, clean, spend_outcome}
 use Rattle.bch_vm.specs.Law.{unlocking_script, locking_script, decided_by, IsRedeemed, IsSmall}
 use Rattle.span_map.specs.declared.SpanRow.{SpanRow}
-use Rattle.span_map.specs.Places.{place_of}
 use Rattle.cash_compile.specs.Rows.{instructions, places, is_keyless, is_plain, AreFew}
 use Rattle.cash_tree.specs.declared.Param.{Param}
 use Rattle.cash_tree.specs.declared.Token.{Token}
@@ -51,12 +46,14 @@ use Rattle.cash_lexer.specs.Tokens.{lexed}
 use Rattle.cash_lexer.specs.Laws.{IsCut}
 use Rattle.cash_parser.specs.Lexemes.{text_at}
 use Rattle.artifact_json.specs.Artifact.{Artifact, AbiParam, AbiCall, HasFewInputs}
+use Rattle.type_check.specs.Answer.{JudgedOnce}
+use Rattle.cash_names.specs.Outline.{NamedTree}
 use Rattle.cash_compile.specs.Compile.{IsAccepted}
 use Rattle.cash_compile.specs.Describes.{described_param, described_function, lossy_at, DescribesBy, Describes}
 use Rattle.cash_compile.proofs.Words.{ParamsHave, FunctionHas, NamesHave, IsTextAt, names_are_texts}
 use Rattle.cash_compile.specs.Decides.{Agrees as ByRun, FailsOrEndsFalse, EndsAs, DecidesByRun, AgreesByRun}
-use Rattle.unlocker.specs.Scripts.{handed_in, spending_script, redeem_script}
-use Rattle.cash_compile.specs.Correct.{Admits, Agrees, SpendsAgree, IsCorrect}
+use Rattle.unlocker.specs.Scripts.{spending_script, redeem_script}
+use Rattle.cash_compile.specs.Correct.{Agrees, SpendsAgree, IsCorrect}
 
 -- ---- what the unlocking script has at most
 
@@ -301,13 +298,13 @@ described source contract program rows words h = record {
 pub program_correct : (law : Law) (cut : (source : List ℕ) (tokens : List Token) → lexed source ≡ Ok tokens → IsCut 0 tokens source) (end : reading [] ≡ [])
     (front : (code : List Instr) (rest : List ℕ) → IsTrue (are_instructions code) → reading (spellings code ++ rest) ≡ map (λ instr. Whole (spelled instr)) code ++ reading rest)
     (meant : (instr : Instr) → IsTrue (is_instruction instr) → (instruction (spelled instr) ≡ instr) × IsTrue (is_minimal (spelled instr)) × (size_of (spelled instr) ≡ length (spelling instr)))
-    (source : List ℕ) (contract : Contract Slot Ty) (rows : List Spanned) (program : Artifact) → IsAccepted source contract → AgreesByRun contract rows → AreFew rows
+    (judged : (tree : NamedTree) → JudgedOnce tree) (source : List ℕ) (contract : Contract Slot Ty) (rows : List Spanned) (program : Artifact) → IsAccepted source contract → AgreesByRun contract rows → AreFew rows
     → program.code ≡ instructions rows → DescribesBy (lossy_at source) source contract program (map places rows) → IsCorrect source contract program
-program_correct law cut end front meant source contract rows program accepted h few code describes =
+program_correct law cut end front meant judged source contract rows program accepted h few code describes =
     let reads : Reads = record { end = end; front = front; meant = λ instr is. (meant instr is).0 } in
     record {
       rows = map places rows;
-      describes = described source contract program (map places rows) (names_are_texts cut source contract accepted) describes;
+      describes = described source contract program (map places rows) (names_are_texts cut judged source contract accepted) describes;
       spelled = subst (λ (c : List Instr). IsTrue (are_instructions c)) (sym code) h.spelled;
       agrees = subst (λ (c : List Instr). SpendsAgree contract c (map places rows)) (sym code) (spends_agree law reads contract rows h few);
       decides = subst (λ (c : List Instr). DecidesByRun contract c) (sym code) (decides contract rows h);

@@ -1,129 +1,141 @@
--- The contract that a named tree of the form stands for is an equality.
-use Rattle.std.proofs.Common.{◌≡◌, ℕ, ◌+◌, ◌*◌, ◌≤◌, ◌==◌, Bool, true, false, cond, List, [], ◌∷◌, length, Option, Some, None, suc, refl, sym, ap, ◌∙◌, subst, arith, inl, inr}
-use Rattle.std.specs.Prelude.{nat_le, nat_lt, option_map, ◌&&◌}
-use Rattle.std.proofs.lemmas.Bool.{leb-true, ltb-true}
+-- The shape of a contract that passes the test of the form.
+use Rattle.std.proofs.Common.{◌≡◌, ℕ, ◌+◌, ◌*◌, ◌<◌, ◌≤◌, ◌⊎◌, inl, inr, ◌==◌, true, List, [], ◌∷◌, length, refl, sym, ap, ◌∙◌}
+use Rattle.std.specs.Prelude.{nat_le, ◌&&◌}
+use Rattle.std.proofs.lemmas.Bool.{leb-true, ltb-true, eqb-true, and_parts}
 use Rattle.cash_base.specs.declared.place.Slot.{Slot}
 use Rattle.cash_tree.specs.declared.Ty.{Ty}
 use Rattle.cash_tree.specs.declared.Contract.{Contract}
 use Rattle.cash_tree.specs.declared.Param.{Param}
 use Rattle.cash_tree.specs.declared.Function.{Function}
+use Rattle.cash_tree.specs.declared.Stmt.{Stmt}
+use Rattle.cash_tree.specs.declared.StmtKind.{StmtKind}
+use Rattle.cash_tree.specs.declared.StmtKind.TheVariants as statements
 use Rattle.cash_tree.specs.declared.Expr.{Expr}
 use Rattle.cash_tree.specs.declared.ExprKind.{ExprKind}
 use Rattle.cash_tree.specs.declared.ExprKind.TheVariants as nodes
 use Rattle.cash_tree.specs.declared.ExprKind.TheOpen.{ExprKind-F}
-use Rattle.cash_names.specs.Expressions.{NamedExpr}
-use Rattle.cash_names.specs.Outline.{NamedTree}
-use Rattle.cash_compile.specs.Form.{◌>>=◌, Open, opened, Parts, only, required, equated, are_ints, are_in_slots, are_few_ints, equality_in, slot, operand_kind, operand_of, operand, params_from, value_of, statement_of, function_of, contract_of, formed, compared, first_form, AreInSlots, IsOperandKind, IsComparison, IsEqualityFunction, IsEquality}
-
--- a step that gives something: what its first part gave, and what the rest gives of that
-pub bind_some : {A B : Type 0} (r : Option A) (f : A → Option B) (y : B) → (r >>= f) ≡ Some y → (x : A) × (r ≡ Some x) × (f x ≡ Some y)
-bind_some None f y e = absurd cc
-bind_some (Some x) f y e = (x, refl, e)
-
-pub map_some : {A B : Type 0} (f : A → B) (r : Option A) (y : B) → option_map f r ≡ Some y → (x : A) × (r ≡ Some x) × (f x ≡ y)
-map_some f None y e = absurd cc
-map_some f (Some x) y e = let same : f x ≡ y = cc in (x, refl, same)
-
-pub some_is : {A : Type 0} {x y : A} → Some x ≡ Some y → x ≡ y
-some_is e = cc
-
--- what is chosen where a test is passed
-pub chosen : {A : Type 0} (test : Bool) (x y : A) → cond test (Some x) None ≡ Some y → (test ≡ true) × (x ≡ y)
-chosen true x y e = (refl, some_is e)
-chosen false x y e = absurd cc
+use Rattle.cash_tree.specs.declared.ExprKind.TheViews.{roll-ExprKind, roll-out-ExprKind}
+use Rattle.cash_tree.specs.declared.BinaryOp.TheVariants.{Equal}
+use Rattle.source_meaning.specs.Runnable.{HaveSlotsFrom}
+use Rattle.cash_compile.specs.Form.{Open, opened, are_ints, are_in_slots, are_few_ints, is_operand, is_comparison, is_check, is_body, is_function, is_alone, is_equality}
 
 -- ---- operands
 
-slot_kind : (name : Slot) (count : ℕ) (kind : ExprKind Slot Ty) (test : Bool) → nat_lt name.0 count ≡ test → cond test (Some (nodes.Name name)) None ≡ Some kind → IsOperandKind count kind
-slot_kind name count kind true is e = inl (name.0, ltb-true name.0 count is, sym (some_is e))
-slot_kind name count kind false is e = absurd cc
+-- a kind that is open to its cases is closed again
+kind_is : (kind : ExprKind Slot Ty) (layer : Open) → opened kind ≡ layer → kind ≡ roll-ExprKind Slot Ty layer
+kind_is kind layer is = sym (roll-out-ExprKind Slot Ty kind) ∙ ap (λ (l : Open). roll-ExprKind Slot Ty l) is
 
-small_kind : (digits unit count : ℕ) (kind : ExprKind Slot Ty) (test : Bool) → nat_le (digits * unit) 16 ≡ test → cond test (Some (nodes.Int digits unit)) None ≡ Some kind → IsOperandKind count kind
-small_kind digits unit count kind true is e = inr (digits, unit, leb-true (digits * unit) 16 is, sym (some_is e))
-small_kind digits unit count kind false is e = absurd cc
+-- one of so many parameters
+abbrev pub IsParam : ℕ → ExprKind Slot Ty → Type 0
+IsParam count kind = (name : Slot) × (name.0 < count) × (kind ≡ nodes.Name name)
 
-kind_is : (count : ℕ) (k : Open) (kind : ExprKind Slot Ty) → operand_kind count k ≡ Some kind → IsOperandKind count kind
-unfolding operand_kind
-kind_is count (ExprKind-F.Name name) kind e = slot_kind name count kind (nat_lt name.0 count) refl e
-kind_is count (ExprKind-F.Int digits unit) kind e = small_kind digits unit count kind (nat_le (digits * unit) 16) refl e
-kind_is count _ kind e = absurd cc
+-- a number of at most 16
+abbrev pub IsSmallNumber : ExprKind Slot Ty → Type 0
+IsSmallNumber kind = (digits unit : ℕ) × (digits * unit ≤ 16) × (kind ≡ nodes.Int digits unit)
 
-pub operand_is : (count : ℕ) (e : NamedExpr) (x : Expr Slot Ty) → operand count e ≡ Some x → IsOperandKind count x.kind
-unfolding operand
-operand_is count e x h =
-    let k = map_some (operand_of e.span) (operand_kind count (opened e.kind)) x h in
-    subst (λ (y : Expr Slot Ty). IsOperandKind count y.kind) k.2 (kind_is count (opened e.kind) k.0 k.1)
+abbrev pub IsOperand : ℕ → ExprKind Slot Ty → Type 0
+IsOperand count kind = IsParam count kind ⊎ IsSmallNumber kind
+
+operand_at : (count : ℕ) (kind : ExprKind Slot Ty) (layer : Open) → opened kind ≡ layer → is_operand count layer ≡ true → IsOperand count kind
+unfolding is_operand roll-ExprKind denote.Hole.Carrier.roll
+operand_at count kind (ExprKind-F.Name name) at is = inl (name, ltb-true name.0 count is, kind_is kind (ExprKind-F.Name name) at)
+operand_at count kind (ExprKind-F.Int digits unit) at is = inr (digits, unit, leb-true (digits * unit) 16 is, kind_is kind (ExprKind-F.Int digits unit) at)
+operand_at count kind _ at is = absurd cc
+
+-- ---- the equality
+
+-- two operands, of which it is the equality
+abbrev pub IsComparison : ℕ → ExprKind Slot Ty → Type 0
+IsComparison count kind =
+    (left right : Expr Slot Ty) × (kind ≡ nodes.Binary Equal left right) × IsOperand count left.kind × IsOperand count right.kind
+
+comparison_at : (count : ℕ) (kind : ExprKind Slot Ty) (layer : Open) → opened kind ≡ layer → is_comparison count layer ≡ true → IsComparison count kind
+unfolding is_comparison roll-ExprKind denote.Hole.Carrier.roll
+comparison_at count kind (ExprKind-F.Binary Equal left right) at is =
+    let both = and_parts (is_operand count (opened left.kind)) (is_operand count (opened right.kind)) is in (
+      left,
+      right,
+      kind_is kind (ExprKind-F.Binary Equal left right) at,
+      operand_at count left.kind (opened left.kind) refl both.0,
+      operand_at count right.kind (opened right.kind) refl both.1,
+    )
+comparison_at count kind _ at is = absurd cc
+
+-- a check of such an equality
+abbrev pub IsCheck : ℕ → StmtKind Slot Ty → Type 0
+IsCheck count kind = (value : Expr Slot Ty) × (kind ≡ statements.Require value) × IsComparison count value.kind
+
+check_is : (count : ℕ) (kind : StmtKind Slot Ty) → is_check count kind ≡ true → IsCheck count kind
+unfolding is_check
+check_is count (statements.Require value) is = (value, refl, comparison_at count value.kind (opened value.kind) refl is)
+check_is count _ is = absurd cc
 
 -- ---- the function
 
-few_from : (params : List (Param Slot)) (test rest : Bool) → nat_le (length params) 16 ≡ test → test && rest ≡ true → length params ≤ 16
-few_from params true rest is e = leb-true (length params) 16 is
-few_from params false rest is e = absurd cc
+-- the function has at most 16 parameters in the slots from 0, and one statement, which checks an equality
+pub record IsEqualityFunction (f : Function Slot Ty) : Type 0 where
+  pub statement : Stmt Slot Ty
+  pub few : length f.params ≤ 16
+  pub in_slots : HaveSlotsFrom 0 f.params
+  pub one_statement : f.body ≡ statement ∷ []
+  pub check : IsCheck (length f.params) statement.kind
 
-few_ints : (params : List (Param Slot)) (bare : Bool) → bare && are_few_ints params ≡ true → length params ≤ 16
+in_slots : (k : ℕ) (params : List (Param Slot)) → are_in_slots k params ≡ true → HaveSlotsFrom k params
+unfolding are_in_slots
+in_slots k [] is = tt
+in_slots k (param ∷ params) is =
+    let both = and_parts (param.name.0 == k) (are_in_slots (k + 1) params) is in
+    (eqb-true param.name.0 k both.0, in_slots (k + 1) params both.1)
+
+few_ints : (params : List (Param Slot)) → are_few_ints params ≡ true → (length params ≤ 16) × HaveSlotsFrom 0 params
 unfolding are_few_ints
-few_ints params true e = few_from params (nat_le (length params) 16) (are_ints params && are_in_slots 0 params) refl e
-few_ints params false e = absurd cc
+few_ints params is =
+    let few = and_parts (nat_le (length params) 16) (are_ints params && are_in_slots 0 params) is in
+    let slots = and_parts (are_ints params) (are_in_slots 0 params) few.1 in
+    (leb-true (length params) 16 few.0, in_slots 0 params slots.1)
 
-equality_is : (tree : NamedTree) (e : Parts) → equality_in tree ≡ Some e → length e.function.params ≤ 16
-unfolding equality_in
-equality_is tree e is =
-    let f = bind_some (only tree.functions) _ e is in
-    let s = bind_some (only f.0.body) _ e f.2 in
-    let value = bind_some (required s.0.kind) _ e s.2 in
-    let sides = bind_some (equated (opened value.0.kind)) _ e value.2 in
-    let both = chosen ((length tree.params == 0) && are_few_ints f.0.params) _ e sides.2 in
-    subst (λ (p : Parts). length p.function.params ≤ 16) both.1 (few_ints f.0.params (length tree.params == 0) both.0)
+abbrev IsBody : ℕ → List (Stmt Slot Ty) → Type 0
+IsBody count body = (statement : Stmt Slot Ty) × (body ≡ statement ∷ []) × IsCheck count statement.kind
 
-length-params_from : (k : ℕ) (params : List (Param Slot)) → length (params_from k params) ≡ length params
-length-params_from k [] = refl
-length-params_from k (param ∷ params) = ap suc (length-params_from (k + 1) params)
+body_is : (count : ℕ) (body : List (Stmt Slot Ty)) → is_body count body ≡ true → IsBody count body
+unfolding is_body
+body_is count [] is = absurd cc
+body_is count (statement ∷ []) is = (statement, refl, check_is count statement.kind is)
+body_is count (statement ∷ next ∷ more) is = absurd cc
 
-in_slots : (k : ℕ) (params : List (Param Slot)) → AreInSlots k (params_from k params)
-in_slots k [] = tt
-in_slots k (param ∷ params) = (refl, in_slots (k + 1) params)
-
-function_is : (x : Parts × Expr Slot Ty × Expr Slot Ty) → length x.0.function.params ≤ 16
-    → IsOperandKind (length x.0.function.params) x.1.kind → IsOperandKind (length x.0.function.params) x.2.kind
-    → IsEqualityFunction (formed x)
-unfolding function_of statement_of value_of
-function_is x few l r =
-    let params = x.0.function.params in
-    let count = length-params_from 0 params in
-    let value = value_of x.0.value.span x.1 x.2 in
-    let P : ExprKind Slot Ty → ℕ → Type 0 = λ kind n. IsOperandKind n kind in
-    record {
-      statement = statement_of x.0.statement.span value;
-      few = omega (arith, count);
-      in_slots = in_slots 0 params;
-      one_statement = refl;
-      comparison = record {
-        value = value;
-        left = x.1;
-        right = x.2;
-        required = refl;
-        compared = refl;
-        left_operand = subst (P x.1.kind) (sym count) l;
-        right_operand = subst (P x.2.kind) (sym count) r;
-      };
-    }
+function_is : (f : Function Slot Ty) → is_function f ≡ true → IsEqualityFunction f
+unfolding is_function
+function_is f is =
+    let both = and_parts (are_few_ints f.params) (is_body (length f.params) f.body) is in
+    let params = few_ints f.params both.0 in
+    let body = body_is (length f.params) f.body both.1 in
+    record { statement = body.0; few = params.0; in_slots = params.1; one_statement = body.1; check = body.2 }
 
 -- ---- the contract
 
-contract_is : (tree : NamedTree) (function : Function Slot Ty) → IsEqualityFunction function → IsEquality (contract_of tree function)
-unfolding contract_of
-contract_is tree function body = record { f = function; no_params = refl; one_function = refl; body = body }
+-- the contract has no parameters and one function, which checks an equality
+pub record IsEquality (c : Contract Slot Ty) : Type 0 where
+  pub f : Function Slot Ty
+  pub no_params : c.params ≡ []
+  pub one_function : c.functions ≡ f ∷ []
+  pub body : IsEqualityFunction f
 
-pub form_is : (tree : NamedTree) (contract : Contract Slot Ty) → first_form tree ≡ Some contract → IsEquality contract
-unfolding compared first_form
-form_is tree contract is =
-    let x = bind_some (compared tree) _ contract is in
-    let e = bind_some (equality_in tree) _ x.0 x.1 in
-    let count = length e.0.function.params in
-    let left = bind_some (operand count e.0.left) _ x.0 e.2 in
-    let right = bind_some (operand count e.0.right) _ x.0 left.2 in
-    let l = operand_is count e.0.left left.0 left.1 in
-    let r = operand_is count e.0.right right.0 right.1 in
-    let body = function_is (e.0, left.0, right.0) (equality_is tree e.0 e.1) l r in
-    let P : Parts × Expr Slot Ty × Expr Slot Ty → Type 0 = λ y. IsEqualityFunction (formed y) in
-    subst IsEquality (some_is x.2) (contract_is tree (formed x.0) (subst P (some_is right.2) body))
+no_param : (params : List (Param Slot)) → length params ≡ 0 → params ≡ []
+no_param [] is = refl
+no_param (param ∷ params) is = absurd cc
+
+abbrev IsAlone : List (Param Slot) → List (Function Slot Ty) → Type 0
+IsAlone params functions = (f : Function Slot Ty) × (params ≡ []) × (functions ≡ f ∷ []) × IsEqualityFunction f
+
+alone_is : (params : List (Param Slot)) (functions : List (Function Slot Ty)) → is_alone params functions ≡ true → IsAlone params functions
+alone_is params [] is = absurd cc
+alone_is params (f ∷ []) is =
+    let both = and_parts (length params == 0) (is_function f) is in
+    (f, no_param params (eqb-true (length params) 0 both.0), refl, function_is f both.1)
+alone_is params (f ∷ g ∷ more) is = absurd cc
+
+pub form_is : (contract : Contract Slot Ty) → is_equality contract ≡ true → IsEquality contract
+unfolding is_equality
+form_is contract is =
+    let alone = alone_is contract.params contract.functions is in
+    record { f = alone.0; no_params = alone.1; one_function = alone.2; body = alone.3 }

@@ -1,20 +1,20 @@
 -- The places of a contract's code lie in its source, as all spans of its tree do.
-use Rattle.std.proofs.Common.{◌≡◌, ◌∙◌, ap, sym, subst, refl, ℕ, ◌==◌, List, [], ◌∷◌, ◌++◌, length, map, Option, Some, None, inl, inr, rules}
-use Rattle.std.specs.Prelude.{option_map, ◌&&◌}
+use Rattle.std.proofs.Common.{◌≡◌, ◌∙◌, ap, sym, subst, refl, ℕ, true, List, [], ◌∷◌, ◌++◌, length, map, Option, Some, None, inl, inr, rules}
 use Rattle.std.specs.List.{AllByRecursion}
 use Rattle.cash_base.specs.declared.place.Span.{Span}
 use Rattle.cash_base.specs.declared.place.Slot.{Slot}
 use Rattle.cash_tree.specs.declared.Ty.{Ty}
 use Rattle.cash_tree.specs.declared.BinaryOp.{BinaryOp}
 use Rattle.cash_tree.specs.declared.BinaryOp.TheVariants.{Equal}
-use Rattle.cash_tree.specs.declared.Contract.{Contract}
 use Rattle.cash_tree.specs.declared.Expr.{Expr}
-use Rattle.cash_tree.specs.declared.ExprKind.{ExprKind, out-ExprKind}
+use Rattle.cash_tree.specs.declared.ExprKind.{out-ExprKind}
 use Rattle.cash_tree.specs.declared.ExprKind.TheVariants as nodes
 use Rattle.cash_tree.specs.declared.ExprKind.TheOpen.{ExprKind-F, Expr-F}
 use Rattle.cash_tree.specs.declared.ExprKind.TheViews.{roll-Expr, roll-ExprKind, out-roll-ExprKind}
 use Rattle.cash_tree.specs.declared.ExprKind.TheFolds.{fold-ExprKind, ind-Expr, fold-roll-Expr, fold-roll-ExprKind, map-ExprKind, the_lemmas}
+use Rattle.cash_tree.specs.declared.StmtKind.{StmtKind}
 use Rattle.cash_tree.specs.declared.StmtKind.TheVariants as statements
+use Rattle.cash_tree.specs.declared.StmtKind.TheFolds.{the_lemmas as stmt_lemmas}
 use Rattle.cash_parser.specs.Grammar.{Expression}
 use Rattle.cash_parser.specs.Statements.{Statement}
 use Rattle.cash_parser.specs.Files.{Tree, FunctionTree}
@@ -25,9 +25,13 @@ use Rattle.cash_names.specs.Expressions.{Kind, NamedExpr, NamedKind, kind_with_s
 use Rattle.cash_names.specs.Outline.{NamedStmt, NamedFunction, NamedTree}
 use Rattle.cash_names.specs.Scopes as scopes
 use Rattle.cash_names.specs.Scopes.{NamesStmt, NamesAll, NamesFunctions, IsNamed}
-use Rattle.cash_compile.specs.Form.{Open, opened, Parts, only, required, equated, are_few_ints, equality_in, operand_kind, operand_of, operand, value_of, statement_of, function_of, contract_of, formed, compared, first_form, IsOperandKind}
-use Rattle.cash_compile.specs.Emission.{told_of, kind_told, IsContractInside}
-use Rattle.cash_compile.proofs.FormShape.{bind_some, map_some, chosen, some_is, operand_is}
+use Rattle.type_check.specs.Tables.{TypedExpr}
+use Rattle.type_check.specs.Outline.{TypedStmt, TypedFunction, TypedContract}
+use Rattle.type_check.specs.Typing.{stmt}
+use Rattle.type_check.specs.Untyped.{untyped, untyped_stmt, untyped_function, untyped_contract}
+use Rattle.cash_compile.specs.Form.{is_equality}
+use Rattle.cash_compile.specs.Emission.{told_of, IsKindInside, IsStatementInside, IsContractInside}
+use Rattle.cash_compile.proofs.FormShape.{IsOperand, IsComparison, IsCheck, IsEqualityFunction, form_is}
 
 -- what takes the spans of a tree apart
 pub record Laws : Type 0 where
@@ -40,6 +44,13 @@ pub record Laws : Type 0 where
       → statement_spans s ≡ s.span ∷ expression_spans value
 
 -- ---- the sides of an equality with slots are those of one with names
+
+-- a kind of a named expression, open to its cases
+abbrev Open : Type 0
+Open = ExprKind-F Slot (Unit {0}) NamedKind NamedExpr
+
+abbrev opened : NamedKind → Open
+opened kind = out-ExprKind Slot (Unit {0}) kind
 
 abbrev kind_slots : (Span → Slot) → Kind → NamedKind
 kind_slots f = fold-ExprKind Span (Unit {0}) NamedKind NamedExpr (kind_with_slots f) node_with_slots
@@ -107,7 +118,20 @@ comes f = ind-Expr Span (Unit {0}) (KindComes f) (ExprComes f)
 span_kept : (f : Span → Slot) (e : Expression) → (with_slots f e).span ≡ e.span
 span_kept f e = search (rules, the_lemmas)
 
--- ---- from the tree to the parts of the form
+-- ---- from the tree to what the one function requires
+
+some_is : {A : Type 0} {x y : A} → Some x ≡ Some y → x ≡ y
+some_is e = cc
+
+-- the item of a list that has one
+abbrev only : {A : Type 0} → List A → Option A
+only (x ∷ []) = Some x
+only _ = None
+
+-- what a statement requires
+abbrev required : StmtKind Slot (Unit {0}) → Option NamedExpr
+required (statements.Require value) = Some value
+required _ = None
 
 only_head : {A : Type 0} (x y : A) (xs : List A) → only (x ∷ xs) ≡ Some y → x ≡ y
 only_head x y [] is = some_is is
@@ -138,71 +162,34 @@ statement_comes laws len source _ _ _ _ t (scopes.step names middle after s ss u
     subst (StatementComes source len) (only_head u t us is) (names, middle, s, one, own)
 
 -- what it requires is an expression of a tree
-abbrev ValueComes : ℕ → Span → NamedExpr → Type 0
-ValueComes len span value = IsInside len span × ((f : Span → Slot) × (e : Expression) × (value ≡ with_slots f e) × AreInside len (expression_spans e))
+abbrev IsExpression : ℕ → NamedExpr → Type 0
+IsExpression len value = (f : Span → Slot) × (e : Expression) × (value ≡ with_slots f e) × AreInside len (expression_spans e)
 
 value_comes : (laws : Laws) (len : ℕ) (source : List ℕ) (names after : Names) (s : Statement) (t : NamedStmt) (value : NamedExpr)
-    → NamesStmt source names s t after → required t.kind ≡ Some value → AreInside len (statement_spans s) → ValueComes len t.span value
+    → NamesStmt source names s t after → required t.kind ≡ Some value → AreInside len (statement_spans s) → IsInside len t.span × IsExpression len value
 value_comes laws len source _ _ _ _ value (scopes.require names e x span named) is inside =
     let s : Statement = scopes.parsed (statements.Require e) span in
     let spans = subst (AreInside len) (laws.require s e refl) inside in
     (laws.statement len s inside, (slot_at source names, e, sym (some_is is) ∙ named.1, spans.1))
 value_comes laws len source _ _ _ _ value _ is inside = absurd cc
 
--- ---- the places of the parts
+-- ---- types leave spans and shape as they are
 
-pub record PartsInside (len : ℕ) (e : Parts) : Type 0 where
-  pub statement : IsInside len e.statement.span
-  pub value : IsInside len e.value.span
-  pub left : IsInside len e.left.span
-  pub right : IsInside len e.right.span
+untyped_span : (e : TypedExpr) → (untyped e).span ≡ e.span
+untyped_span e = search (rules, the_lemmas)
 
-equated_is : (k : Open) (sides : NamedExpr × NamedExpr) → equated k ≡ Some sides → k ≡ ExprKind-F.Binary Equal sides.0 sides.1
-equated_is (ExprKind-F.Binary Equal l r) sides is =
-    let both : (l, r) ≡ sides = some_is is in
-    ap (λ (p : NamedExpr × NamedExpr). ExprKind-F.Binary Equal p.0 p.1) both
-equated_is _ sides is = absurd cc
+untyped_binary : (e left right : TypedExpr) (op : BinaryOp) → e.kind ≡ nodes.Binary op left right
+    → (untyped e).kind ≡ nodes.Binary op (untyped left) (untyped right)
+untyped_binary e left right op is = search (rules, the_lemmas)
 
-named_inside : (laws : Laws) (len : ℕ) (f : Span → Slot) (e : Expression) (x : NamedExpr) → x ≡ with_slots f e → AreInside len (expression_spans e) → IsInside len x.span
-named_inside laws len f e x is inside = subst (IsInside len) (sym (ap (λ (y : NamedExpr). y.span) is ∙ span_kept f e)) (laws.expression len e inside)
+untyped_require : (s : TypedStmt) (value : TypedExpr) → s.kind ≡ statements.Require value
+    → untyped_stmt s ≡ stmt (statements.Require (untyped value)) s.span
+untyped_require s value is = search (rules, stmt_lemmas)
 
-value_inside : (laws : Laws) (len : ℕ) (span : Span) (value : NamedExpr) (sides : NamedExpr × NamedExpr) → ValueComes len span value → equated (opened value.kind) ≡ Some sides
-    → IsInside len value.span × IsInside len sides.0.span × IsInside len sides.1.span
-value_inside laws len span value sides from is =
-    let f = from.1.0 in
-    let e = from.1.1 in
-    let inside = from.1.3 in
-    let equal = ap (λ (x : NamedExpr). opened x.kind) (sym from.1.2) ∙ equated_is (opened value.kind) sides is in
-    let parts = comes f e sides.0 sides.1 equal in
-    let split = subst (AreInside len) (laws.binary e parts.0 parts.1 Equal parts.2) inside in
-    let both = laws.joined len (expression_spans parts.0) (expression_spans parts.1) split.1 in (
-      named_inside laws len f e value from.1.2 inside,
-      named_inside laws len f parts.0 sides.0 parts.3 both.0,
-      named_inside laws len f parts.1 sides.1 parts.4 both.1,
-    )
-
-body_inside : (laws : Laws) (len : ℕ) (source : List ℕ) (g : NamedFunction) (e : Parts) (t : NamedStmt) (value : NamedExpr) (sides : NamedExpr × NamedExpr)
-    → FunctionComes source len g → only g.body ≡ Some t → required t.kind ≡ Some value → equated (opened value.kind) ≡ Some sides
-    → record { function = g; statement = t; value = value; left = sides.0; right = sides.1 } ≡ e → PartsInside len e
-body_inside laws len source g e t value sides from found is equal whole =
-    let one = statement_comes laws len source from.0 from.1 from.2 g.body t from.3 found from.4 in
-    let required_ = value_comes laws len source one.0 one.1 one.2 t value one.3 is one.4 in
-    let inside = value_inside laws len t.span value sides required_ equal in
-    subst (PartsInside len) whole (record { statement = required_.0; value = inside.0; left = inside.1; right = inside.2 })
-
-parts_inside : (laws : Laws) (len : ℕ) (source : List ℕ) (tree : Tree) (named : NamedTree) (e : Parts) → IsNamed source tree named → AreInside len (tree_spans tree)
-    → equality_in named ≡ Some e → PartsInside len e
-unfolding equality_in
-parts_inside laws len source _ _ e (scopes.contract ctor functions name span pragmas ps qs f fs gs admitted params calls) inside is =
-    let g = bind_some (only gs) _ e is in
-    let s = bind_some (only g.0.body) _ e g.2 in
-    let value = bind_some (required s.0.kind) _ e s.2 in
-    let sides = bind_some (equated (opened value.0.kind)) _ e value.2 in
-    let whole : Parts = record { function = g.0; statement = s.0; value = value.0; left = sides.0.0; right = sides.0.1 } in
-    let both = chosen ((length qs == 0) && are_few_ints g.0.params) whole e sides.2 in
-    let further = (laws.joined len _ _ inside.1.1).1 in
-    let spans = (laws.joined len (joined (map param_spans ps)) (joined (map function_spans (f ∷ fs))) further).1 in
-    body_inside laws len source g.0 e s.0 value.0 sides.0 (function_comes laws len source _ _ _ (f ∷ fs) gs g.0 calls g.1 spans) s.1 value.1 sides.1 both.1
+typed_inside : (laws : Laws) (len : ℕ) (f : Span → Slot) (e : Expression) (x : TypedExpr) → untyped x ≡ with_slots f e → AreInside len (expression_spans e) → IsInside len x.span
+typed_inside laws len f e x is inside =
+    let same : x.span ≡ e.span = sym (untyped_span x) ∙ ap (λ (y : NamedExpr). y.span) is ∙ span_kept f e in
+    subst (IsInside len) (sym same) (laws.expression len e inside)
 
 -- ---- what is told of the contract
 
@@ -216,43 +203,56 @@ told_at_binary : (e : Expr Slot Ty) (op : BinaryOp) (left right : Expr Slot Ty) 
     → told_of e ≡ told_of left ++ (told_of right ++ e.span ∷ [])
 told_at_binary e op left right is = search (rules, the_lemmas)
 
-operand_told : (len count : ℕ) (e : Expr Slot Ty) → IsOperandKind count e.kind → IsInside len e.span → AllByRecursion (IsInside len) (told_of e)
-operand_told len count e (inl (n, within, is)) inside = subst (AllByRecursion (IsInside len)) (sym (told_at_name e _ is)) (inside, (inside, tt))
+operand_told : (len count : ℕ) (e : Expr Slot Ty) → IsOperand count e.kind → IsInside len e.span → AllByRecursion (IsInside len) (told_of e)
+operand_told len count e (inl (name, within, is)) inside = subst (AllByRecursion (IsInside len)) (sym (told_at_name e name is)) (inside, (inside, tt))
 operand_told len count e (inr (digits, unit, low, is)) inside = subst (AllByRecursion (IsInside len)) (sym (told_at_number e digits unit is)) (inside, tt)
 
 both_hold : {A : Type 0} (P : A → Type 0) (xs ys : List A) → AllByRecursion P xs → AllByRecursion P ys → AllByRecursion P (xs ++ ys)
 both_hold P [] ys all more = more
 both_hold P (x ∷ xs) ys all more = (all.0, both_hold P xs ys all.1 more)
 
-operand_span : (count : ℕ) (e : NamedExpr) (x : Expr Slot Ty) → operand count e ≡ Some x → e.span ≡ x.span
-unfolding operand
-operand_span count e x is =
-    let k = map_some (operand_of e.span) (operand_kind count (opened e.kind)) x is in
-    ap (λ (y : Expr Slot Ty). y.span) k.2
+value_told : (laws : Laws) (len count : ℕ) (value : TypedExpr) → IsComparison count value.kind → IsExpression len (untyped value) → AllByRecursion (IsInside len) (told_of value)
+value_told laws len count value h from =
+    let left = h.0 in
+    let right = h.1 in
+    let f = from.0 in
+    let e = from.1 in
+    let layer : opened (untyped value).kind ≡ ExprKind-F.Binary Equal (untyped left) (untyped right) =
+    ap opened (untyped_binary value left right Equal h.2) ∙ binary_opened Equal (untyped left) (untyped right) in
+    let parts = comes f e (untyped left) (untyped right) (ap (λ (x : NamedExpr). opened x.kind) (sym from.2) ∙ layer) in
+    let split = subst (AreInside len) (laws.binary e parts.0 parts.1 Equal parts.2) from.3 in
+    let both = laws.joined len (expression_spans parts.0) (expression_spans parts.1) split.1 in
+    let own = typed_inside laws len f e value from.2 from.3 in
+    let l = operand_told len count left h.3 (typed_inside laws len f parts.0 left parts.3 both.0) in
+    let r = operand_told len count right h.4 (typed_inside laws len f parts.1 right parts.4 both.1) in
+    let tail = both_hold (IsInside len) (told_of right) (value.span ∷ []) r (own, tt) in
+    let all = both_hold (IsInside len) (told_of left) (told_of right ++ value.span ∷ []) l tail in
+    subst (AllByRecursion (IsInside len)) (sym (told_at_binary value Equal left right h.2)) all
 
-formed_inside : (len count : ℕ) (tree : NamedTree) (x : Parts × Expr Slot Ty × Expr Slot Ty) → PartsInside len x.0 → IsInside len x.1.span → IsInside len x.2.span
-    → IsOperandKind count x.1.kind → IsOperandKind count x.2.kind → IsContractInside len (contract_of tree (formed x))
-unfolding contract_of function_of statement_of value_of
-formed_inside len count tree x parts left right l r =
-    let value = value_of x.0.value.span x.1 x.2 in
-    let told = told_at_binary value Equal x.1 x.2 refl in
-    let own = both_hold (IsInside len) (told_of x.2) (x.0.value.span ∷ []) (operand_told len count x.2 r right) (parts.value, tt) in
-    let all = both_hold (IsInside len) (told_of x.1) (told_of x.2 ++ x.0.value.span ∷ []) (operand_told len count x.1 l left) own in
-    (((parts.statement, subst (AllByRecursion (IsInside len)) (sym told) all), tt), tt)
+statement_inside : (laws : Laws) (len count : ℕ) (source : List ℕ) (s : TypedStmt) → IsCheck count s.kind → StatementComes source len (untyped_stmt s) → IsStatementInside len s
+statement_inside laws len count source s check one =
+    let value = check.0 in
+    let bare = untyped_require s value check.1 in
+    let requires_ : required (untyped_stmt s).kind ≡ Some (untyped value) = ap (λ (t : NamedStmt). required t.kind) bare in
+    let from = value_comes laws len source one.0 one.1 one.2 (untyped_stmt s) (untyped value) one.3 requires_ one.4 in
+    let span = subst (IsInside len) (ap (λ (t : NamedStmt). t.span) bare) from.0 in
+    (span, subst (IsKindInside len) (sym check.1) (value_told laws len count value check.2 from.1))
 
-pub contract_inside : (laws : Laws) (len : ℕ) (source : List ℕ) (tree : Tree) (named : NamedTree) (c : Contract Slot Ty) → IsNamed source tree named → AreInside len (tree_spans tree)
-    → first_form named ≡ Some c → IsContractInside len c
-unfolding compared first_form
-contract_inside laws len source tree named c names inside is =
-    let x = bind_some (compared named) _ c is in
-    let e = bind_some (equality_in named) _ x.0 x.1 in
-    let count = length e.0.function.params in
-    let left = bind_some (operand count e.0.left) _ x.0 e.2 in
-    let right = bind_some (operand count e.0.right) _ x.0 left.2 in
-    let parts = parts_inside laws len source tree named e.0 names inside e.1 in
-    let l = subst (IsInside len) (operand_span count e.0.left left.0 left.1) parts.left in
-    let r = subst (IsInside len) (operand_span count e.0.right right.0 right.1) parts.right in
-    let whole : Parts × Expr Slot Ty × Expr Slot Ty = (e.0, left.0, right.0) in
-    let formed_ = formed_inside len count named whole parts l r (operand_is count e.0.left left.0 left.1) (operand_is count e.0.right right.0 right.1) in
-    let P : Parts × Expr Slot Ty × Expr Slot Ty → Type 0 = λ y. IsContractInside len (contract_of named (formed y)) in
-    subst (IsContractInside len) (some_is x.2) (subst P (some_is right.2) formed_)
+function_inside : (laws : Laws) (len : ℕ) (source : List ℕ) (f : TypedFunction) → IsEqualityFunction f → FunctionComes source len (untyped_function f) → AllByRecursion (IsStatementInside len) f.body
+function_inside laws len source f h from =
+    let s = h.statement in
+    let found : only (map untyped_stmt f.body) ≡ Some (untyped_stmt s) = ap (λ (ss : List TypedStmt). only (map untyped_stmt ss)) h.one_statement in
+    let one = statement_comes laws len source from.0 from.1 from.2 (map untyped_stmt f.body) (untyped_stmt s) from.3 found from.4 in
+    subst (AllByRecursion (IsStatementInside len)) (sym h.one_statement) (statement_inside laws len (length f.params) source s h.check one, tt)
+
+pub contract_inside : (laws : Laws) (len : ℕ) (source : List ℕ) (tree : Tree) (named : NamedTree) (c : TypedContract) → IsNamed source tree named → AreInside len (tree_spans tree)
+    → untyped_contract c ≡ named → is_equality c ≡ true → IsContractInside len c
+contract_inside laws len source _ _ c (scopes.contract ctor functions name span pragmas ps qs f fs gs admitted params calls) inside kept form =
+    let h = form_is c form in
+    let g = untyped_function h.f in
+    let one : only gs ≡ Some g =
+    ap (λ (t : NamedTree). only t.functions) (sym kept) ∙ ap (λ (l : List TypedFunction). only (map untyped_function l)) h.one_function in
+    let further = (laws.joined len _ _ inside.1.1).1 in
+    let spans = (laws.joined len (joined (map param_spans ps)) (joined (map function_spans (f ∷ fs))) further).1 in
+    let body = function_inside laws len source h.f h.body (function_comes laws len source _ _ _ (f ∷ fs) gs g calls one spans) in
+    subst (AllByRecursion (λ (f : TypedFunction). AllByRecursion (IsStatementInside len) f.body)) (sym h.one_function) (body, tt)

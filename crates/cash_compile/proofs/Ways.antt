@@ -1,6 +1,9 @@
--- A source is accepted as one contract, or refused in one way.
-use Rattle.std.proofs.Common.{◌≡◌, ℕ, ◌<◌, ◌≤◌, List, length, Option, Some, None, Result, Ok, Err, refl, sym, ap, ◌∙◌, subst, arith}
-use Rattle.std.specs.Str.{IsUtf8}
+-- A source is accepted as one contract, or refused in one way, and one of the two.
+use Rattle.std.proofs.Common.{◌≡◌, ℕ, ◌<◌, ◌≤◌, ◌⊎◌, inl, inr, zero, suc, ◌+◌, ◌-◌, Bool, true, false, List, [], ◌∷◌, length, Option, Some, None, Result, Ok, Err, refl, sym, ap, ◌∙◌, subst, arith}
+use Rattle.std.specs.Prelude.{◌≢◌}
+use Rattle.std.specs.Str.{IsUtf8, is_utf8}
+use Rattle.std.proofs.lemmas.Bool.{cases_lt, false≢true}
+use Rattle.std.proofs.lemmas.Str.{IsUtf8-from_is_utf8, is_utf8-from_IsUtf8}
 use Rattle.std.specs.Str.Lossy.{utf8_valid_len}
 use Rattle.cash_base.specs.declared.place.Span.{Span}
 use Rattle.cash_base.specs.declared.place.Slot.{Slot}
@@ -8,32 +11,45 @@ use Rattle.cash_tree.specs.declared.Ty.{Ty}
 use Rattle.cash_tree.specs.declared.Token.{Token}
 use Rattle.cash_tree.specs.declared.Contract.{Contract}
 use Rattle.cash_lexer.specs.declared.fault.LexFault.{LexFault}
-use Rattle.cash_lexer.specs.Tokens.{lexed}
+use Rattle.cash_lexer.specs.declared.fault.LexFault.TheVariants as lexer
+use Rattle.cash_lexer.specs.declared.piece.Piece.{Piece}
+use Rattle.cash_lexer.specs.declared.piece.Piece.TheVariants.{Gap, Known, Flawed}
+use Rattle.cash_lexer.specs.declared.piece.Flaw.{Flaw}
+use Rattle.cash_lexer.specs.declared.piece.Flaw.TheVariants as flaws
+use Rattle.cash_lexer.specs.Rows.{piece_of}
+use Rattle.cash_lexer.specs.Tokens.{Find, span_at, fault_of, finds_with, finds_behind, with_front, all_of, lexed}
 use Rattle.cash_parser.specs.declared.fault.ParseFault.{ParseFault}
 use Rattle.cash_parser.specs.declared.fault.ParseFault.TheVariants as parser
 use Rattle.cash_parser.specs.declared.fault.DepthRule.{DepthRule}
 use Rattle.cash_parser.specs.Lexemes.{Lexeme, lexemes}
 use Rattle.cash_parser.specs.DepthRules.{deepest_token}
 use Rattle.cash_parser.specs.Files.{Tree, SpellsFile}
-use Rattle.cash_parser.specs.Answer.{IsNone}
+use Rattle.cash_parser.specs.FileReading.{tree_of}
+use Rattle.cash_parser.proofs.FileComplete.{tree_found, tree_none}
 use Rattle.cash_names.specs.declared.fault.NameFault.{NameFault}
 use Rattle.cash_names.specs.Outline.{NamedTree}
 use Rattle.cash_names.specs.Scopes.{IsNamed, first_name_fault}
-use Rattle.cash_names.specs.Answer.{HasNone}
+use Rattle.cash_names.specs.Answer.{HasOne, HasNone, HasFault}
+use Rattle.type_check.specs.declared.fault.TypeFault.{TypeFault}
+use Rattle.type_check.specs.Typing.{TypesContract}
+use Rattle.type_check.specs.Answer.{first_type_fault, JudgedOnce}
 use Rattle.cash_compile.specs.declared.refusal.Refusal.{Refusal}
-use Rattle.cash_compile.specs.declared.refusal.Refusal.TheVariants.{SourceTooLong, NotUtf8, Lex, Parse, Name, NotBuilt, Memory}
-use Rattle.cash_compile.specs.Form.{first_form}
-use Rattle.cash_compile.specs.Compile.{max_source_len, IsText, HasTokens, HasTree, HasNames, IsAccepted, IsFaultOf, IsRefused, AreSame}
+use Rattle.cash_compile.specs.declared.refusal.Refusal.TheVariants.{SourceTooLong, NotUtf8, Lex, Parse, Name, Typing, NotBuilt, Memory}
+use Rattle.cash_compile.specs.Form.{is_equality}
+use Rattle.cash_compile.specs.Compile.{max_source_len, IsText, HasTokens, HasTree, HasNames, HasTypes, IsAccepted, IsFaultOf, IsRefused, AreSame}
 
 -- tokens with their texts spell at most one tree
 abbrev pub OneTree : Type 0
 OneTree = (ts : List Lexeme) (a b : Tree) → SpellsFile ts a → SpellsFile ts b → a ≡ b
 
--- what the parser and the resolver give: one tree, one named tree, and none where some place of the tree is refused
+-- What the parser, the resolver and the checker of types give: one tree; one named tree, or a first fault, and no named
+-- tree where there is one; and one contract with types, or a first fault.
 pub record Laws : Type 0 where
   pub tree : OneTree
   pub named : (source : List ℕ) (tree : Tree) (a b : NamedTree) → IsNamed source tree a → IsNamed source tree b → a ≡ b
+  pub either : (source : List ℕ) (tree : Tree) → HasOne source tree ⊎ HasFault source tree
   pub apart : (source : List ℕ) (tree : Tree) (fault : NameFault) → first_name_fault source tree ≡ Some fault → HasNone source tree
+  pub judged : (tree : NamedTree) → JudgedOnce tree
 
 abbrev found : List Token → Result (List Token) LexFault
 found tokens = Ok tokens
@@ -63,10 +79,13 @@ one_named_of laws source a b h k =
     laws.named source h.tree a b h.names
     (subst (λ (t : Tree). IsNamed source t b) (one_tree_of laws.tree source k.tree h.tree k.parsed h.parsed) k.names)
 
+one_typed_of : Laws → (source : List ℕ) (a b : Contract Slot Ty) → HasTypes source a → HasTypes source b → a ≡ b
+one_typed_of laws source a b h k =
+    (laws.judged h.named).one a b h.types.0
+    (subst (λ (t : NamedTree). TypesContract t b) (one_named_of laws source k.named h.named k.resolved h.resolved) k.types.0)
+
 pub one_contract_is : Laws → (source : List ℕ) (a b : Contract Slot Ty) → IsAccepted source a → IsAccepted source b → a ≡ b
-one_contract_is laws source a b h k =
-    let same : Some a ≡ Some b = sym h.formed ∙ ap first_form (one_named_of laws source h.named k.named h.resolved k.resolved) ∙ k.formed in
-    cc
+one_contract_is laws source a b h k = one_typed_of laws source a b h.typed k.typed
 
 -- ---- a stage gives something, or it doesn't
 
@@ -95,18 +114,22 @@ named_or_fault laws source tree named fault h k is =
     laws.apart source tree fault is named
     (subst (λ (t : Tree). IsNamed source t named) (one_tree_of laws.tree source h.tree tree h.parsed k) h.names)
 
-form_or_none : Laws → (source : List ℕ) (a b : NamedTree) (contract : Contract Slot Ty) → HasNames source a → HasNames source b → first_form a ≡ Some contract → first_form b ≡ None → ⊥
-form_or_none laws source a b contract h k some none =
-    let same : Some contract ≡ None = sym some ∙ ap first_form (one_named_of laws source a b h k) ∙ none in
+typed_or_fault : Laws → (source : List ℕ) (contract : Contract Slot Ty) (named : NamedTree) (fault : TypeFault) → HasTypes source contract → HasNames source named → first_type_fault named ≡ Some fault → ⊥
+typed_or_fault laws source contract named fault h k is =
+    let same : None ≡ Some fault = sym h.types.1 ∙ ap first_type_fault (one_named_of laws source h.named named h.resolved k) ∙ is in
     cc
 
+form_or_none : Laws → (source : List ℕ) (a b : Contract Slot Ty) → HasTypes source a → HasTypes source b → is_equality a ≡ true → is_equality b ≡ false → ⊥
+form_or_none laws source a b h k some none = false≢true (sym none ∙ ap is_equality (one_typed_of laws source b a k h) ∙ some)
+
 pub never_both_are : Laws → (source : List ℕ) (contract : Contract Slot Ty) (refusal : Refusal) → IsAccepted source contract → IsRefused source refusal → ⊥
-never_both_are laws source contract (SourceTooLong bytes) h r = let short = h.resolved.parsed.cut.text.short in let long = r.0 in omega arith
-never_both_are laws source contract (NotUtf8 at) h r = text_or_bytes source h.resolved.parsed.cut.text r.1
-never_both_are laws source contract (Lex fault) h r = tokens_or_fault source h.resolved.parsed.tokens fault h.resolved.parsed.cut r.1
-never_both_are laws source contract (Parse fault) h r = tree_or_fault source h.resolved.tree r.0 (length r.0) fault h.resolved.parsed r.1 r.2
-never_both_are laws source contract (Name fault) h r = named_or_fault laws source r.0 h.named fault h.resolved r.1 r.2
-never_both_are laws source contract (NotBuilt span) h r = form_or_none laws source h.named r.0 contract h.resolved r.1 h.formed r.2
+never_both_are laws source contract (SourceTooLong bytes) h r = let short = h.typed.resolved.parsed.cut.text.short in let long = r.0 in omega arith
+never_both_are laws source contract (NotUtf8 at) h r = text_or_bytes source h.typed.resolved.parsed.cut.text r.1
+never_both_are laws source contract (Lex fault) h r = tokens_or_fault source h.typed.resolved.parsed.tokens fault h.typed.resolved.parsed.cut r.1
+never_both_are laws source contract (Parse fault) h r = tree_or_fault source h.typed.resolved.tree r.0 (length r.0) fault h.typed.resolved.parsed r.1 r.2
+never_both_are laws source contract (Name fault) h r = named_or_fault laws source r.0 h.typed.named fault h.typed.resolved r.1 r.2
+never_both_are laws source contract (Typing fault) h r = typed_or_fault laws source contract r.0 fault h.typed r.1 r.2
+never_both_are laws source contract (NotBuilt span) h r = form_or_none laws source contract r.0 h.typed r.1 h.formed r.2
 never_both_are laws source contract Memory h r = r
 
 -- ---- the one refusal of each stage
@@ -117,7 +140,8 @@ from_long source (NotUtf8 at) long r = let short = r.0 in absurd (omega arith)
 from_long source (Lex fault) long r = let short = r.0.short in absurd (omega arith)
 from_long source (Parse fault) long r = let short = r.1.text.short in absurd (omega arith)
 from_long source (Name fault) long r = let short = r.1.cut.text.short in absurd (omega arith)
-from_long source (NotBuilt span) long r = let short = r.1.parsed.cut.text.short in absurd (omega arith)
+from_long source (Typing fault) long r = let short = r.1.parsed.cut.text.short in absurd (omega arith)
+from_long source (NotBuilt span) long r = let short = r.1.resolved.parsed.cut.text.short in absurd (omega arith)
 from_long source Memory long r = absurd r
 
 from_bytes : (source : List ℕ) (b : Refusal) → length source ≤ max_source_len → (IsUtf8 source → ⊥) → IsRefused source b → NotUtf8 (utf8_valid_len source) ≡ b
@@ -126,7 +150,8 @@ from_bytes source (NotUtf8 at) short none r = ap (λ (n : ℕ). NotUtf8 n) (sym 
 from_bytes source (Lex fault) short none r = absurd (text_or_bytes source r.0 none)
 from_bytes source (Parse fault) short none r = absurd (text_or_bytes source r.1.text none)
 from_bytes source (Name fault) short none r = absurd (text_or_bytes source r.1.cut.text none)
-from_bytes source (NotBuilt span) short none r = absurd (text_or_bytes source r.1.parsed.cut.text none)
+from_bytes source (Typing fault) short none r = absurd (text_or_bytes source r.1.parsed.cut.text none)
+from_bytes source (NotBuilt span) short none r = absurd (text_or_bytes source r.1.resolved.parsed.cut.text none)
 from_bytes source Memory short none r = absurd r
 
 from_lexer : (source : List ℕ) (fault : LexFault) (b : Refusal) → IsText source → lexed source ≡ Err fault → IsRefused source b → Lex fault ≡ b
@@ -135,7 +160,8 @@ from_lexer source fault (NotUtf8 at) text is r = absurd (text_or_bytes source te
 from_lexer source fault (Lex other) text is r = ap (λ (f : LexFault). Lex f) (fault_same fault other (sym is ∙ r.1))
 from_lexer source fault (Parse other) text is r = absurd (tokens_or_fault source r.0 fault r.1 is)
 from_lexer source fault (Name other) text is r = absurd (tokens_or_fault source r.1.tokens fault r.1.cut is)
-from_lexer source fault (NotBuilt span) text is r = absurd (tokens_or_fault source r.1.parsed.tokens fault r.1.parsed.cut is)
+from_lexer source fault (Typing other) text is r = absurd (tokens_or_fault source r.1.parsed.tokens fault r.1.parsed.cut is)
+from_lexer source fault (NotBuilt span) text is r = absurd (tokens_or_fault source r.1.resolved.parsed.tokens fault r.1.resolved.parsed.cut is)
 from_lexer source fault Memory text is r = absurd r
 
 deep_same : (a b : DepthRule × Span) → Some a ≡ Some b → a ≡ b
@@ -160,7 +186,8 @@ from_parser source tokens fault (Parse other) cut is r =
     let P : List Token → Type 0 = λ ts. IsFaultOf (lexemes source ts) (length ts) other in
     faults_same (lexemes source tokens) (length tokens) fault other is (subst P (one_tokens source r.0 tokens r.1 cut) r.2)
 from_parser source tokens fault (Name other) cut is r = absurd (tree_or_fault source r.0 tokens (length tokens) fault r.1 cut is)
-from_parser source tokens fault (NotBuilt span) cut is r = absurd (tree_or_fault source r.1.tree tokens (length tokens) fault r.1.parsed cut is)
+from_parser source tokens fault (Typing other) cut is r = absurd (tree_or_fault source r.1.tree tokens (length tokens) fault r.1.parsed cut is)
+from_parser source tokens fault (NotBuilt span) cut is r = absurd (tree_or_fault source r.1.resolved.tree tokens (length tokens) fault r.1.resolved.parsed cut is)
 from_parser source tokens fault Memory cut is r = absurd r
 
 refused_same : (a b : NameFault) → Some a ≡ Some b → a ≡ b
@@ -174,18 +201,35 @@ from_names laws source tree fault (Parse other) h is r = absurd (tree_or_fault s
 from_names laws source tree fault (Name other) h is r =
     let same = ap (λ (t : Tree). first_name_fault source t) (one_tree_of laws.tree source tree r.0 h r.1) in
     ap (λ (f : NameFault). Name f) (refused_same fault other (sym is ∙ same ∙ r.2))
-from_names laws source tree fault (NotBuilt span) h is r = absurd (named_or_fault laws source tree r.0 fault r.1 h is)
+from_names laws source tree fault (Typing other) h is r = absurd (named_or_fault laws source tree r.0 fault r.1 h is)
+from_names laws source tree fault (NotBuilt span) h is r = absurd (named_or_fault laws source tree r.1.named fault r.1.resolved h is)
 from_names laws source tree fault Memory h is r = absurd r
 
-from_form : Laws → (source : List ℕ) (named : NamedTree) (b : Refusal) → HasNames source named → first_form named ≡ None → IsRefused source b → NotBuilt named.span ≡ b
-from_form laws source named (SourceTooLong bytes) h none r = let short = h.parsed.cut.text.short in let long = r.0 in absurd (omega arith)
-from_form laws source named (NotUtf8 at) h none r = absurd (text_or_bytes source h.parsed.cut.text r.1)
-from_form laws source named (Lex fault) h none r = absurd (tokens_or_fault source h.parsed.tokens fault h.parsed.cut r.1)
-from_form laws source named (Parse fault) h none r = absurd (tree_or_fault source h.tree r.0 (length r.0) fault h.parsed r.1 r.2)
-from_form laws source named (Name fault) h none r = absurd (named_or_fault laws source r.0 named fault h r.1 r.2)
-from_form laws source named (NotBuilt span) h none r =
-    ap (λ (t : NamedTree). NotBuilt t.span) (one_named_of laws source named r.0 h r.1) ∙ ap (λ (s : Span). NotBuilt s) (sym r.3)
-from_form laws source named Memory h none r = absurd r
+mistyped_same : (a b : TypeFault) → Some a ≡ Some b → a ≡ b
+mistyped_same a b same = cc
+
+from_types : Laws → (source : List ℕ) (named : NamedTree) (fault : TypeFault) (b : Refusal) → HasNames source named → first_type_fault named ≡ Some fault → IsRefused source b → Typing fault ≡ b
+from_types laws source named fault (SourceTooLong bytes) h is r = let short = h.parsed.cut.text.short in let long = r.0 in absurd (omega arith)
+from_types laws source named fault (NotUtf8 at) h is r = absurd (text_or_bytes source h.parsed.cut.text r.1)
+from_types laws source named fault (Lex other) h is r = absurd (tokens_or_fault source h.parsed.tokens other h.parsed.cut r.1)
+from_types laws source named fault (Parse other) h is r = absurd (tree_or_fault source h.tree r.0 (length r.0) other h.parsed r.1 r.2)
+from_types laws source named fault (Name other) h is r = absurd (named_or_fault laws source r.0 named other h r.1 r.2)
+from_types laws source named fault (Typing other) h is r =
+    let same = ap first_type_fault (one_named_of laws source named r.0 h r.1) in
+    ap (λ (f : TypeFault). Typing f) (mistyped_same fault other (sym is ∙ same ∙ r.2))
+from_types laws source named fault (NotBuilt span) h is r = absurd (typed_or_fault laws source r.0 named fault r.1 h is)
+from_types laws source named fault Memory h is r = absurd r
+
+from_form : Laws → (source : List ℕ) (contract : Contract Slot Ty) (b : Refusal) → HasTypes source contract → is_equality contract ≡ false → IsRefused source b → NotBuilt contract.span ≡ b
+from_form laws source contract (SourceTooLong bytes) h none r = let short = h.resolved.parsed.cut.text.short in let long = r.0 in absurd (omega arith)
+from_form laws source contract (NotUtf8 at) h none r = absurd (text_or_bytes source h.resolved.parsed.cut.text r.1)
+from_form laws source contract (Lex fault) h none r = absurd (tokens_or_fault source h.resolved.parsed.tokens fault h.resolved.parsed.cut r.1)
+from_form laws source contract (Parse fault) h none r = absurd (tree_or_fault source h.resolved.tree r.0 (length r.0) fault h.resolved.parsed r.1 r.2)
+from_form laws source contract (Name fault) h none r = absurd (named_or_fault laws source r.0 h.named fault h.resolved r.1 r.2)
+from_form laws source contract (Typing fault) h none r = absurd (typed_or_fault laws source contract r.0 fault h r.1 r.2)
+from_form laws source contract (NotBuilt span) h none r =
+    ap (λ (c : Contract Slot Ty). NotBuilt c.span) (one_typed_of laws source contract r.0 h r.1) ∙ ap (λ (s : Span). NotBuilt s) (sym r.3)
+from_form laws source contract Memory h none r = absurd r
 
 pub one_refusal_is : Laws → (source : List ℕ) (a b : Refusal) → IsRefused source a → IsRefused source b → AreSame a b
 one_refusal_is laws source (SourceTooLong bytes) b h k = ap (λ (n : ℕ). SourceTooLong n) h.1 ∙ from_long source b h.0 k
@@ -193,5 +237,86 @@ one_refusal_is laws source (NotUtf8 at) b h k = ap (λ (n : ℕ). NotUtf8 n) h.2
 one_refusal_is laws source (Lex fault) b h k = from_lexer source fault b h.0 h.1 k
 one_refusal_is laws source (Parse fault) b h k = from_parser source h.0 fault b h.1 h.2 k
 one_refusal_is laws source (Name fault) b h k = from_names laws source h.0 fault b h.1 h.2 k
+one_refusal_is laws source (Typing fault) b h k = from_types laws source h.0 fault b h.1 h.2 k
 one_refusal_is laws source (NotBuilt span) b h k = ap (λ (s : Span). NotBuilt s) h.3 ∙ from_form laws source h.0 b h.1 h.2 k
 one_refusal_is laws source Memory b h k = absurd h
+
+-- ---- each source ends in one of the two
+
+abbrev pub IsDecided : List ℕ → Type 0
+IsDecided source = ((contract : Contract Slot Ty) × IsAccepted source contract) ⊎ ((refusal : Refusal) × IsRefused source refusal)
+
+by_form : (source : List ℕ) (contract : Contract Slot Ty) (test : Bool) → is_equality contract ≡ test → HasTypes source contract → IsDecided source
+by_form source contract true is h = inl (contract, record { typed = h; formed = is })
+by_form source contract false is h = inr (NotBuilt contract.span, (contract, h, is, refl))
+
+by_types : Laws → (source : List ℕ) (named : NamedTree) (fault : Option TypeFault) → first_type_fault named ≡ fault → HasNames source named → IsDecided source
+by_types laws source named (Some fault) is h = inr (Typing fault, (named, h, is))
+by_types laws source named None is h =
+    let typed = (laws.judged named).accepted is in
+    by_form source typed.0 (is_equality typed.0) refl (record { named = named; resolved = h; types = (typed.1, is) })
+
+by_names : Laws → (source : List ℕ) (tree : Tree) → HasTree source tree → HasOne source tree ⊎ HasFault source tree → IsDecided source
+by_names laws source tree h (inl (named, is)) = by_types laws source named (first_type_fault named) refl (record { tree = tree; parsed = h; names = is })
+by_names laws source tree h (inr (fault, is)) = inr (Name fault, (tree, h, is))
+
+by_tree : Laws → (source : List ℕ) (tokens : List Token) (tree : Option Tree) → tree_of (lexemes source tokens) ≡ tree → deepest_token (lexemes source tokens) ≡ None
+    → HasTokens source tokens → IsDecided source
+by_tree laws source tokens (Some tree) is shallow h =
+    let parsed : HasTree source tree = record { tokens = tokens; cut = h; shallow = shallow; spelled = tree_found (lexemes source tokens) tree is } in
+    by_names laws source tree parsed (laws.either source tree)
+by_tree laws source tokens None is shallow h =
+    inr (Parse (parser.Syntax 0), (tokens, h, (shallow, tree_none (lexemes source tokens) is, omega arith)))
+
+by_depth : Laws → (source : List ℕ) (tokens : List Token) (deep : Option (DepthRule × Span)) → deepest_token (lexemes source tokens) ≡ deep → HasTokens source tokens → IsDecided source
+by_depth laws source tokens (Some deep) is h = inr (Parse (parser.TooDeep deep.0 deep.1), (tokens, h, is))
+by_depth laws source tokens None is h = by_tree laws source tokens (tree_of (lexemes source tokens)) refl is h
+
+-- the lexer's fault is never want of memory
+abbrev Sure : Result (List Token) LexFault → Type 0
+Sure (Ok tokens) = Unit {0}
+Sure (Err fault) = fault ≢ lexer.Memory
+
+flaw_sure : (flaw : Flaw) (span : Span) → fault_of flaw span ≢ lexer.Memory
+flaw_sure flaws.BadCharacter span is = cc
+flaw_sure flaws.OpenString span is = cc
+flaw_sure flaws.OpenComment span is = cc
+flaw_sure flaws.NumberTooWide span is = cc
+flaw_sure flaws.OddHex span is = cc
+flaw_sure flaws.BadDate span is = cc
+
+front_sure : (front : List Token) (more : Result (List Token) LexFault) → Sure more → Sure (with_front front more)
+front_sure front (Ok tokens) sure = tt
+front_sure front (Err fault) sure = sure
+
+piece_sure : (at : ℕ) (piece : Option Piece) (behind : ℕ → List Find) → ((len : ℕ) → Sure (all_of (behind len))) → Sure (all_of (finds_with at piece behind))
+piece_sure at None behind sure = tt
+piece_sure at (Some (Gap len)) behind sure = sure len
+piece_sure at (Some (Known kind len)) behind sure =
+    let token : Token = record { kind = kind; span = span_at at len } in
+    front_sure (token ∷ []) (all_of (behind len)) (sure len)
+piece_sure at (Some (Flawed flaw len)) behind sure = flaw_sure flaw (span_at at len)
+
+finds_sure : (skipped at : ℕ) (text : List ℕ) → Sure (all_of (finds_behind skipped at text))
+unfolding finds_behind
+finds_sure skipped at [] = tt
+finds_sure (suc skipped) at (byte ∷ rest) = finds_sure skipped (at + 1) rest
+finds_sure zero at (byte ∷ rest) =
+    piece_sure at (piece_of (byte ∷ rest)) (λ len. finds_behind (len - 1) (at + 1) rest) (λ len. finds_sure (len - 1) (at + 1) rest)
+
+by_tokens : Laws → (source : List ℕ) (found_ : Result (List Token) LexFault) → lexed source ≡ found_ → Sure found_ → IsText source → IsDecided source
+by_tokens laws source (Ok tokens) is sure h = by_depth laws source tokens (deepest_token (lexemes source tokens)) refl (record { text = h; found = is })
+by_tokens laws source (Err fault) is sure h = inr (Lex fault, (h, is, sure))
+
+by_utf8 : Laws → (source : List ℕ) (test : Bool) → is_utf8 source ≡ test → length source ≤ max_source_len → IsDecided source
+by_utf8 laws source true is short =
+    by_tokens laws source (lexed source) refl (finds_sure 0 0 source) (record { short = short; utf8 = IsUtf8-from_is_utf8 source is })
+by_utf8 laws source false is short =
+    inr (NotUtf8 (utf8_valid_len source), (short, λ utf8. false≢true (sym is ∙ is_utf8-from_IsUtf8 source utf8), refl))
+
+by_length : Laws → (source : List ℕ) → (max_source_len < length source) ⊎ (length source ≤ max_source_len) → IsDecided source
+by_length laws source (inl long) = inr (SourceTooLong (length source), (long, refl))
+by_length laws source (inr short) = by_utf8 laws source (is_utf8 source) refl short
+
+pub decided_is : Laws → (source : List ℕ) → IsDecided source
+decided_is laws source = by_length laws source (cases_lt max_source_len (length source))

@@ -1,6 +1,6 @@
 -- Names are words of ASCII letters, digits and `_`: so the texts of a contract's names are UTF-8.
 use Rattle.std.proofs.Common.{◌≡◌, ◌∙◌, ap, sym, subst, refl, ℕ, ℤ, ◌+◌, ◌-◌, ◌<◌, ◌≤◌, ◌⊎◌, inl, inr, Bool, true, false, List, [], ◌∷◌, ◌++◌, take, drop, length, map, get_or, Option, Some, None, Ok, arith}
-use Rattle.std.specs.Prelude.{if◌then◌else◌, nat_lt, nat_le, nat_eq, ◌&&◌, ◌||◌, ◌==◌, ◌%◌, codes}
+use Rattle.std.specs.Prelude.{if◌then◌else◌, nat_lt, nat_le, nat_eq, ◌||◌, ◌==◌, ◌%◌, codes}
 use Rattle.std.specs.List.{AllByRecursion, prefix_len, starts_with, list_any}
 use Rattle.std.specs.Option.{option_or}
 use Rattle.std.specs.Str.{IsUtf8}
@@ -17,8 +17,6 @@ use Rattle.cash_tree.specs.declared.Ty.{Ty}
 use Rattle.cash_tree.specs.declared.Param.{Param}
 use Rattle.cash_tree.specs.declared.Function.{Function}
 use Rattle.cash_tree.specs.declared.Contract.{Contract}
-use Rattle.cash_tree.specs.declared.Expr.{Expr}
-use Rattle.cash_tree.specs.declared.Stmt.{Stmt}
 use Rattle.cash_tree.specs.declared.Token.{Token}
 use Rattle.cash_tree.specs.declared.TokenKind.{TokenKind}
 use Rattle.cash_tree.specs.declared.TokenKind.TheVariants as kinds
@@ -31,17 +29,16 @@ use Rattle.cash_lexer.specs.Dates.{date, date_piece, date_behind, is_quote}
 use Rattle.cash_lexer.specs.Rows.{word, is_word_start, is_word_byte, string, string_piece, string_len, sign, double_signs, single_signs, bad_character, gap, literal, other, piece_of}
 use Rattle.cash_lexer.specs.Tokens.{lexed}
 use Rattle.cash_lexer.specs.Laws.{IsNext, IsCut}
-use Rattle.cash_parser.specs.Words.{type_of}
 use Rattle.cash_parser.specs.Lexemes.{Lexeme, Name, symbol_of, symbol_at, text_at, lexeme, lexemes}
-use Rattle.cash_parser.specs.Grammar.{lex, mark}
 use Rattle.cash_parser.specs.Files.{Tree, FunctionTree, SpellsParams, no_param, last_param, next_param, SpellsFunctions, no_function, one_function, SpellsFile, contract, one_constraint, two_constraints}
 use Rattle.cash_names.specs.Names.{Names}
 use Rattle.cash_names.specs.Outline.{NamedFunction, NamedTree}
 use Rattle.cash_names.specs.Scopes as scopes
 use Rattle.cash_names.specs.Scopes.{NamesParams, NamesFunctions, IsNamed}
-use Rattle.cash_compile.specs.Compile.{HasNames, IsAccepted}
-use Rattle.cash_compile.specs.Form.{Parts, only, required, equated, opened, are_few_ints, equality_in, operand, params_from, function_of, contract_of, formed, compared, first_form}
-use Rattle.cash_compile.proofs.FormShape.{bind_some, chosen, some_is}
+use Rattle.type_check.specs.Outline.{TypedFunction, TypedContract}
+use Rattle.type_check.specs.Untyped.{untyped_function, untyped_contract}
+use Rattle.type_check.specs.Answer.{JudgedOnce}
+use Rattle.cash_compile.specs.Compile.{IsAccepted}
 
 -- ---- pieces of a text
 
@@ -275,50 +272,23 @@ tree_named : (P : Span → Type 0) {source : List ℕ} {tree : Tree} {named : Na
 tree_named P (scopes.contract ctor functions name span pragmas ps qs f fs gs admitted params calls) all =
     (all.0, params_named P params all.1, functions_named P calls all.2)
 
--- ---- and so does the form
+-- ---- and so do types
 
-formed_params : (P : Span → Type 0) (k : ℕ) (params : List (Param Slot)) → ParamsHave P params → ParamsHave P (params_from k params)
-formed_params P k [] all = tt
-formed_params P k (param ∷ params) all = (all.0, formed_params P (k + 1) params all.1)
+functions_typed : (P : Span → Type 0) (fs : List TypedFunction) → AllByRecursion (FunctionHas P) (map untyped_function fs) → AllByRecursion (FunctionHas P) fs
+functions_typed P [] all = tt
+functions_typed P (f ∷ fs) all = (all.0, functions_typed P fs all.1)
 
-only_has : {A : Type 0} (P : A → Type 0) (xs : List A) (x : A) → only xs ≡ Some x → AllByRecursion P xs → P x
-only_has P [] x is all = absurd cc
-only_has P (y ∷ []) x is all = subst P (some_is is) all.0
-only_has P (y ∷ z ∷ more) x is all = absurd cc
-
-part_has : (P : Span → Type 0) (tree : NamedTree) (e : Parts) → equality_in tree ≡ Some e → NamesHave P tree → FunctionHas P e.function
-unfolding equality_in
-part_has P tree e is all =
-    let f = bind_some (only tree.functions) _ e is in
-    let s = bind_some (only f.0.body) _ e f.2 in
-    let value = bind_some (required s.0.kind) _ e s.2 in
-    let sides = bind_some (equated (opened value.0.kind)) _ e value.2 in
-    let both = chosen ((length tree.params == 0) && are_few_ints f.0.params) (record { function = f.0; statement = s.0; value = value.0; left = sides.0.0; right = sides.0.1 }) e sides.2 in
-    let found : Parts = record { function = f.0; statement = s.0; value = value.0; left = sides.0.0; right = sides.0.1 } in
-    subst (λ (p : Parts). FunctionHas P p.function) {x = found} both.1 (only_has (FunctionHas P) tree.functions f.0 f.1 all.2)
-
-formed_has : (P : Span → Type 0) (tree : NamedTree) (x : Parts × Expr Slot Ty × Expr Slot Ty) → P tree.name → FunctionHas P x.0.function → NamesHave P (contract_of tree (formed x))
-unfolding contract_of function_of
-formed_has P tree x name all = (name, tt, ((all.0, formed_params P 0 x.0.function.params all.1), tt))
-
-form_has : (P : Span → Type 0) (tree : NamedTree) (c : Contract Slot Ty) → first_form tree ≡ Some c → NamesHave P tree → NamesHave P c
-unfolding compared first_form
-form_has P tree c is all =
-    let x = bind_some (compared tree) _ c is in
-    let e = bind_some (equality_in tree) _ x.0 x.1 in
-    let count = length e.0.function.params in
-    let left = bind_some (operand count e.0.left) _ x.0 e.2 in
-    let right = bind_some (operand count e.0.right) _ x.0 left.2 in
-    let F : Parts × Expr Slot Ty × Expr Slot Ty → Type 0 = λ y. FunctionHas P y.0.function in
-    let function = subst F (some_is right.2) (part_has P tree e.0 e.1 all) in
-    subst (NamesHave P) (some_is x.2) (formed_has P tree x.0 all.0 function)
+contract_typed : (P : Span → Type 0) (c : TypedContract) → NamesHave P (untyped_contract c) → NamesHave P c
+contract_typed P c all = (all.0, all.1, functions_typed P c.functions all.2)
 
 -- ---- accepted sources
 
 pub names_are_texts : ((source : List ℕ) (tokens : List Token) → lexed source ≡ Ok tokens → IsCut 0 tokens source)
-    → (source : List ℕ) (c : Contract Slot Ty) → IsAccepted source c → NamesHave (IsTextAt source) c
-names_are_texts cut source c accepted =
-    let tree = accepted.resolved.parsed in
+    → ((tree : NamedTree) → JudgedOnce tree) → (source : List ℕ) (c : Contract Slot Ty) → IsAccepted source c → NamesHave (IsTextAt source) c
+names_are_texts cut judged source c accepted =
+    let named = accepted.typed.resolved in
+    let tree = named.parsed in
     let words = tokens_are source 0 tree.tokens (cut source tree.tokens tree.cut.found) in
-    form_has (IsTextAt source) accepted.named c accepted.formed
-    (tree_named (IsTextAt source) accepted.resolved.names (file_spelled source tree.spelled words))
+    let kept = (judged accepted.typed.named).kept c accepted.typed.types.0 in
+    let all = tree_named (IsTextAt source) named.names (file_spelled source tree.spelled words) in
+    contract_typed (IsTextAt source) c (subst (λ (t : NamedTree). NamesHave (IsTextAt source) t) (sym kept) all)

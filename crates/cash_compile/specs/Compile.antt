@@ -1,5 +1,5 @@
 -- Which sources are accepted, and which are refused: what each stage wants of a source, and the first stage that gives nothing.
-use Rattle.std.specs.Prelude.{◌≡◌, ◌≢◌, ℕ, ◌<◌, ◌≤◌, List, length, Some, None, Ok, Err}
+use Rattle.std.specs.Prelude.{◌≡◌, ◌≢◌, ℕ, ◌<◌, ◌≤◌, true, false, List, length, Some, None, Ok, Err}
 use Rattle.std.specs.Str.{IsUtf8}
 use Rattle.std.specs.Str.Lossy.{utf8_valid_len}
 use Rattle.cash_base.specs.declared.place.Slot.{Slot}
@@ -16,11 +16,12 @@ use Rattle.cash_parser.specs.Files.{Tree, SpellsFile}
 use Rattle.cash_parser.specs.Answer.{IsNone}
 use Rattle.cash_names.specs.Outline.{NamedTree}
 use Rattle.cash_names.specs.Scopes.{IsNamed, first_name_fault}
+use Rattle.type_check.specs.Answer.{IsTyped, first_type_fault}
 use Rattle.script_codec.specs.declared.instr.Instr.{Instr}
 use Rattle.cash_compile.specs.declared.compile.Compiled.{Compiled}
 use Rattle.cash_compile.specs.declared.refusal.Refusal.{Refusal}
-use Rattle.cash_compile.specs.declared.refusal.Refusal.TheVariants.{SourceTooLong, NotUtf8, Lex, Parse, Name, NotBuilt, Memory}
-use Rattle.cash_compile.specs.Form.{first_form}
+use Rattle.cash_compile.specs.declared.refusal.Refusal.TheVariants.{SourceTooLong, NotUtf8, Lex, Parse, Name, Typing, NotBuilt, Memory}
+use Rattle.cash_compile.specs.Form.{is_equality}
 use Rattle.cash_compile.specs.Correct.{IsCorrect}
 
 -- ---- the stages
@@ -52,11 +53,16 @@ pub record HasNames (source : List ℕ) (named : NamedTree) : Type 0 where
   pub parsed : HasTree source tree
   pub names : IsNamed source tree named
 
--- ... which is of the form that is built so far, and stands for this contract
-pub record IsAccepted (source : List ℕ) (contract : Contract Slot Ty) : Type 0 where
+-- ... and this contract is that tree with the type of each expression, and no rule of types is broken
+pub record HasTypes (source : List ℕ) (contract : Contract Slot Ty) : Type 0 where
   pub named : NamedTree
   pub resolved : HasNames source named
-  pub formed : first_form named ≡ Some contract
+  pub types : IsTyped named contract
+
+-- ... which is of the form that is built so far
+pub record IsAccepted (source : List ℕ) (contract : Contract Slot Ty) : Type 0 where
+  pub typed : HasTypes source contract
+  pub formed : is_equality contract ≡ true
 
 -- the source stands for the contract, and the program is correct for it
 abbrev pub IsCompiled : List ℕ → Compiled → Type 0
@@ -81,7 +87,8 @@ IsRefused source (NotUtf8 at) = (length source ≤ max_source_len) × (IsUtf8 so
 IsRefused source (Lex fault) = IsText source × (lexed source ≡ Err fault) × (fault ≢ lexer.Memory)
 IsRefused source (Parse fault) = (tokens : List Token) × HasTokens source tokens × IsFaultOf (lexemes source tokens) (length tokens) fault
 IsRefused source (Name fault) = (tree : Tree) × HasTree source tree × (first_name_fault source tree ≡ Some fault)
-IsRefused source (NotBuilt span) = (named : NamedTree) × HasNames source named × (first_form named ≡ None) × (span ≡ named.span)
+IsRefused source (Typing fault) = (named : NamedTree) × HasNames source named × (first_type_fault named ≡ Some fault)
+IsRefused source (NotBuilt span) = (contract : Contract Slot Ty) × HasTypes source contract × (is_equality contract ≡ false) × (span ≡ contract.span)
 IsRefused source Memory = ⊥
 
 -- the same refusal, but for the token that a Syntax names

@@ -5,4 +5,3 @@ pub mod Describes
 pub mod Emission
 pub mod Form
 pub mod Rows
-pub mod Seen

@@ -1,6 +1,6 @@
 //! From a source to the program of its contract.
 
-ghost use Rattle.std.specs.Prelude.{◌≡◌, ◌≢◌, ◌^◌, ◌<◌, ℕ, List, length, map, IfOk, IfErr};
+ghost use Rattle.std.specs.Prelude.{◌≡◌, ◌≢◌, ◌⊎◌, ◌^◌, ◌<◌, ℕ, List, length, map, IfOk, IfErr};
 ghost use Rattle.std.specs.List.{AllByRecursion};
 ghost use Rattle.cash_base.specs.declared.place.Slot.{Slot};
 ghost use Rattle.cash_tree.specs.declared.Ty.{Ty};
@@ -16,8 +16,8 @@ ghost use Rattle.cash_compile.specs.Compile.{IsAccepted, IsCompiled, IsRefused, 
 
 use crate::describe::program_of;
 use crate::emission::emit;
-use crate::form::first_form;
-use crate::reading::named_tree_of;
+use crate::form::is_equality;
+use crate::reading::typed_contract_of;
 use crate::refusal::Refusal;
 use artifact_json::Program;
 use bch_vm::laws::spend_is_decided;
@@ -29,6 +29,7 @@ use cash_tree::TypedContract;
 use script_codec::Spanned;
 use script_codec::laws::{meaning_of_spelled, reading_behind_encoded, reading_in_turn};
 use std::alloc::Global;
+use type_check::judged_once;
 
 /// A contract and its program.
 #[derive(Drop)]
@@ -42,7 +43,8 @@ pub struct Compiled {
 /// Each spend that is built of the program ends as the run of the source: accepted where the run is met, and otherwise
 /// refused in the redeem script, with the cause and at the place of the run's failure. Each refusal comes
 /// exactly where its cause stands in the source, in the order of [`Refusal`]: the length, UTF-8, the tokens, how deep
-/// they nest, the tree, its pragmas and names, and the form that is built so far. Memory may be wanting at any time.
+/// they nest, the tree, its pragmas and names, its types, and the form that is built so far. Memory may be wanting at
+/// any time.
 #[tactic(auto, using(crate::proofs::Accepted::equality_emittable))]
 pub fn compile(alloc: Global, source: &[u8]) -> Result<Compiled, Refusal>
     requires { length source.now < 2 ^ 32 }
@@ -50,10 +52,12 @@ pub fn compile(alloc: Global, source: &[u8]) -> Result<Compiled, Refusal>
     ensures few { IfOk result (λ compiled. HasFewInputs compiled.program) }
     ensures refused { IfErr result (λ refusal. refusal ≢ WithoutMemory → IsRefused source.now refusal) }
 {
-    let named = named_tree_of(alloc, source)?;
-    let Some(contract) = first_form(alloc, &named)? else {
-        return Err(Refusal::NotBuilt { span: named.span });
-    };
+    let contract = typed_contract_of(alloc, source)?;
+    if !is_equality(&contract) {
+        return Err(Refusal::NotBuilt {
+            span: contract.span,
+        });
+    }
     let rows = emit(alloc, &contract)?;
     let program = correct_program(alloc, source, &contract, rows)?;
     Ok(Compiled { program, contract })
@@ -74,6 +78,7 @@ fn correct_program(
     ensures few { IfOk result (λ program. HasFewInputs program) }
 {
     tokens_cut_the_source();
+    judged_once();
     spend_is_decided();
     reading_in_turn();
     reading_behind_encoded();
@@ -89,11 +94,14 @@ pub fn one_contract()
 {
     one_tree();
     one_answer();
+    judged_once();
 }
 
-/// A source is accepted or refused, and not both; and it is refused in one way only, but for the token that a Syntax
-/// names.
+/// Each list of bytes is accepted or refused, and not both; and it is refused in one way only, but for the token that a
+/// Syntax names.
 pub fn one_way()
+    ensures either { (source : List ℕ) →
+        ((contract : CashContract Slot Ty) × IsAccepted source contract) ⊎ ((refusal : Cause) × IsRefused source refusal) }
     ensures never_both { (source : List ℕ) (contract : CashContract Slot Ty) (refusal : Cause) →
         IsAccepted source contract → IsRefused source refusal → ⊥ }
     ensures one_refusal { (source : List ℕ) (a b : Cause) →
@@ -101,4 +109,5 @@ pub fn one_way()
 {
     one_tree();
     one_answer();
+    judged_once();
 }

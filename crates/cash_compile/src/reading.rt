@@ -1,21 +1,23 @@
-//! From a source to its named tree, stage by stage.
+//! From a source to its contract with types, stage by stage.
 
-ghost use Rattle.std.specs.Prelude.{◌≡◌, ◌≢◌, ◌≤◌, ◌<◌, ◌^◌, length, IfOk, IfErr};
+ghost use Rattle.std.specs.Prelude.{◌≡◌, ◌≢◌, ◌≤◌, ◌<◌, ◌^◌, length, IfOk, IfErr, IsTrue};
 ghost use Rattle.cash_compile.specs.declared.refusal.Refusal.TheVariants.{Memory};
 ghost use Rattle.cash_base.specs.declared.place.Slot.{Slot};
 ghost use Rattle.cash_tree.specs.declared.Ty.{Ty};
 ghost use Rattle.cash_tree.specs.declared.Contract.{Contract as CashContract};
 ghost use Rattle.cash_parser.specs.Inside.{AreInside, tree_spans};
-ghost use Rattle.cash_compile.specs.Form.{first_form};
+ghost use Rattle.type_check.specs.Untyped.{untyped_contract};
+ghost use Rattle.cash_compile.specs.Form.{is_equality};
 ghost use Rattle.cash_compile.specs.Emission.{IsContractInside};
-ghost use Rattle.cash_compile.specs.Compile.{IsText, HasTokens, HasTree, HasNames, IsRefused};
+ghost use Rattle.cash_compile.specs.Compile.{IsText, HasTokens, HasTree, HasNames, HasTypes, IsRefused};
 
 use crate::refusal::Refusal;
 use cash_lexer::LexFault;
 use cash_names::{NameFault, resolve};
 use cash_parser::{ParseFault, parse, spans_come_apart, tokens_stand_in_order};
-use cash_tree::{NamedTree, Token, Tree};
+use cash_tree::{NamedTree, Token, Tree, TypedContract};
 use std::alloc::Global;
+use type_check::{TypeFault, check};
 
 /// The most bytes of a source.
 pub const MAX_SOURCE_LEN: usize = 65_536;
@@ -77,8 +79,8 @@ fn tree_of(alloc: Global, text: &str) -> Result<Tree, Refusal>
 pub fn named_tree_of(alloc: Global, source: &[u8]) -> Result<NamedTree, Refusal>
     requires { length source.now < 2 ^ 32 }
     ensures named { IfOk result (λ named. HasNames source.now named) }
-    ensures inside { IfOk result (λ named. (contract : CashContract Slot Ty) → first_form named ≡ Some contract
-        → IsContractInside (length source.now) contract) }
+    ensures inside { IfOk result (λ named. (contract : CashContract Slot Ty) → untyped_contract contract ≡ named
+        → IsTrue (is_equality contract) → IsContractInside (length source.now) contract) }
     ensures refused { IfErr result (λ refusal. refusal ≢ Memory → IsRefused source.now refusal) }
 {
     spans_come_apart();
@@ -88,5 +90,25 @@ pub fn named_tree_of(alloc: Global, source: &[u8]) -> Result<NamedTree, Refusal>
         Ok(named) => Ok(named),
         Err(NameFault::Memory) => Err(Refusal::Memory),
         Err(fault) => Err(Refusal::Name(fault)),
+    }
+}
+
+/// The contract of a source, with the type of each expression.
+///
+/// # Errors
+///
+/// The refusal of the first stage that gives nothing: those of [`named_tree_of`], and then `Typing`, exactly where the
+/// rules of types refuse a node, or `Memory`, where memory ran out.
+pub fn typed_contract_of(alloc: Global, source: &[u8]) -> Result<TypedContract, Refusal>
+    requires { length source.now < 2 ^ 32 }
+    ensures typed { IfOk result (λ contract. HasTypes source.now contract) }
+    ensures inside { IfOk result (λ contract. IsTrue (is_equality contract) → IsContractInside (length source.now) contract) }
+    ensures refused { IfErr result (λ refusal. refusal ≢ Memory → IsRefused source.now refusal) }
+{
+    let named = named_tree_of(alloc, source)?;
+    match check(alloc, &named) {
+        Ok(contract) => Ok(contract),
+        Err(TypeFault::Memory) => Err(Refusal::Memory),
+        Err(fault) => Err(Refusal::Typing(fault)),
     }
 }

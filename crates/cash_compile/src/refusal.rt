@@ -8,9 +8,10 @@ use cash_lexer::LexFault;
 use cash_names::NameFault;
 use cash_parser::ParseFault;
 use std::alloc::AllocError;
+use type_check::TypeFault;
 
 /// Why a source isn't compiled: the first stage that gives nothing, in this order.
-#[derive(Clone, Copy, Debug, PartialEq, Eq)]
+#[derive(Debug, Drop)]
 pub enum Refusal {
     /// It is longer than 65,536 bytes: it has so many.
     SourceTooLong { bytes: u32 },
@@ -22,7 +23,9 @@ pub enum Refusal {
     Parse(ParseFault),
     /// A pragma or a name of its tree is refused. The fault is never want of memory.
     Name(NameFault),
-    /// Its tree isn't of the form that is built so far; the span is that of the contract.
+    /// A node of its named tree has no type. The fault is never want of memory.
+    Typing(TypeFault),
+    /// It is well typed, but not of the form that is built so far; the span is that of the contract.
     NotBuilt { span: Span },
     /// Memory ran out.
     Memory,

@@ -2,6 +2,9 @@
 use Rattle.std.specs.Prelude.{ℕ, List, ◌++◌, length, codes, slice_get, Option, Some, None, Result, Ok, Err}
 use Rattle.std.specs.Fmt.{decimal}
 use Rattle.cash_tree.specs.declared.Token.{Token}
+use Rattle.cash_tree.specs.declared.Ty.{Ty}
+use Rattle.cash_tree.specs.declared.Ty.TheOpen.{Ty-F}
+use Rattle.cash_tree.specs.declared.Ty.TheFolds.{fold-Ty}
 use Rattle.cash_lexer.specs.declared.fault.LexFault.{LexFault}
 use Rattle.cash_lexer.specs.declared.fault.LexFault.TheVariants as lexer
 use Rattle.cash_lexer.specs.Tokens.{lexed}
@@ -9,8 +12,10 @@ use Rattle.cash_parser.specs.declared.fault.ParseFault.{ParseFault}
 use Rattle.cash_parser.specs.declared.fault.ParseFault.TheVariants as parser
 use Rattle.cash_names.specs.declared.fault.NameFault.{NameFault}
 use Rattle.cash_names.specs.declared.fault.NameFault.TheVariants as names
+use Rattle.type_check.specs.declared.fault.TypeFault.{TypeFault}
+use Rattle.type_check.specs.declared.fault.TypeFault.TheVariants as types
 use Rattle.cash_compile.specs.declared.refusal.Refusal.{Refusal}
-use Rattle.cash_compile.specs.declared.refusal.Refusal.TheVariants.{SourceTooLong, NotUtf8, Lex, Parse, Name, NotBuilt, Memory}
+use Rattle.cash_compile.specs.declared.refusal.Refusal.TheVariants.{SourceTooLong, NotUtf8, Lex, Parse, Name, Typing, NotBuilt, Memory}
 use Rattle.span_map.specs.Lines.{line_col}
 
 -- ---- places
@@ -66,6 +71,37 @@ name_text source (names.TooManyNames span) = at_place source span.from (codes "T
 name_text source (names.NoFunction span) = at_place source span.from (codes "NoFunction")
 name_text source names.Memory = out_of_memory
 
+-- a type as it is spelled in a source; an array is its item's type and `[]`, and a pair has one word
+abbrev pub layer_text : Ty-F (List ℕ) → List ℕ
+layer_text Ty-F.Int = codes "int"
+layer_text Ty-F.Bool = codes "bool"
+layer_text Ty-F.Text = codes "string"
+layer_text Ty-F.Bytes = codes "bytes"
+layer_text (Ty-F.BytesN size) = codes "bytes" ++ decimal size
+layer_text Ty-F.Pubkey = codes "pubkey"
+layer_text Ty-F.Sig = codes "sig"
+layer_text Ty-F.Datasig = codes "datasig"
+layer_text (Ty-F.Array item) = item ++ codes "[]"
+layer_text (Ty-F.Pair left right) = codes "pair"
+
+abbrev pub type_text : Ty → List ℕ
+type_text = fold-Ty (List ℕ) layer_text
+
+-- the name of a mismatch, with both types
+abbrev pub mismatch : Ty → Ty → List ℕ
+mismatch wanted found = codes "Mismatch wanted " ++ type_text wanted ++ codes " found " ++ type_text found
+
+abbrev pub typing_text : List ℕ → TypeFault → List ℕ
+typing_text source (types.Mismatch span wanted found) = at_place source span.from (mismatch wanted found)
+typing_text source (types.NoSuchCast span) = at_place source span.from (codes "NoSuchCast")
+typing_text source (types.WrongCount span wanted found) = at_place source span.from (codes "WrongCount")
+typing_text source (types.BadTupleIndex span) = at_place source span.from (codes "BadTupleIndex")
+typing_text source (types.EmptyArray span) = at_place source span.from (codes "EmptyArray")
+typing_text source (types.MoreSigsThanKeys span) = at_place source span.from (codes "MoreSigsThanKeys")
+typing_text source (types.LiteralRange span) = at_place source span.from (codes "LiteralRange")
+typing_text source (types.NoFinalRequire span) = at_place source span.from (codes "NoFinalRequire")
+typing_text source types.Memory = out_of_memory
+
 -- the line that refuses a source
 abbrev pub refusal_text : List ℕ → Refusal → List ℕ
 refusal_text source (SourceTooLong bytes) = source_too_long
@@ -73,5 +109,6 @@ refusal_text source (NotUtf8 at) = codes "refused NotUtf8 " ++ decimal at ++ cod
 refusal_text source (Lex fault) = lex_text source fault
 refusal_text source (Parse fault) = parse_text source fault
 refusal_text source (Name fault) = name_text source fault
+refusal_text source (Typing fault) = typing_text source fault
 refusal_text source (NotBuilt span) = at_place source span.from (codes "NotBuilt")
 refusal_text source Memory = out_of_memory

@@ -3,15 +3,17 @@
 ghost use Rattle.std.specs.Prelude.{◌≡◌, ◌≢◌, ◌≤◌, length, string_bytes, [], IfOk};
 ghost use Rattle.cash_compile.specs.Compile.{IsText, IsRefused, max_source_len};
 ghost use Rattle.cashc.specs.RefusalText;
-ghost use Rattle.cashc.specs.RefusalText.{named_at, at_place, lex_text, parse_text, name_text};
+ghost use Rattle.cashc.specs.RefusalText.{named_at, at_place, lex_text, parse_text, name_text, type_text, mismatch, typing_text};
 
 use cash_base::Memory;
 use cash_compile::Refusal;
 use cash_lexer::{LexFault, tokens};
 use cash_names::NameFault;
 use cash_parser::ParseFault;
+use cash_tree::Ty;
 use span_map::line_col_of;
 use std::alloc::{AllocError, Global};
+use type_check::TypeFault;
 
 /// Where the token with this number begins, or else the end of the source.
 fn token_start(alloc: Global, source: &[u8], number: u32) -> Result<u32, Memory>
@@ -99,10 +101,69 @@ fn name_text(alloc: Global, source: &[u8], fault: NameFault) -> Result<String, M
     Ok(at_place(alloc, source, span.from, name)?)
 }
 
+/// A type as it is spelled in a source; an array is its item's type and `[]`, and a pair has one word.
+fn type_text(alloc: Global, ty: &Ty) -> Result<String, AllocError>
+    ensures { IfOk result (λ text. string_bytes text ≡ type_text ty.now) }
+{
+    match ty {
+        Ty::Int => Ok(String::from_str(alloc, "int")?),
+        Ty::Bool => Ok(String::from_str(alloc, "bool")?),
+        Ty::Text => Ok(String::from_str(alloc, "string")?),
+        Ty::Bytes => Ok(String::from_str(alloc, "bytes")?),
+        Ty::BytesN(size) => Ok(format!(in alloc; "bytes{size}")?),
+        Ty::Pubkey => Ok(String::from_str(alloc, "pubkey")?),
+        Ty::Sig => Ok(String::from_str(alloc, "sig")?),
+        Ty::Datasig => Ok(String::from_str(alloc, "datasig")?),
+        Ty::Array(item) => {
+            let mut text = type_text(alloc, item.get())?;
+            text.push_str("[]")?;
+            Ok(text)
+        }
+        Ty::Pair(_, _) => Ok(String::from_str(alloc, "pair")?),
+    }
+}
+
+/// The name of a mismatch, with both types.
+fn mismatch(alloc: Global, wanted: &Ty, found: &Ty) -> Result<String, AllocError>
+    ensures { IfOk result (λ text. string_bytes text ≡ mismatch wanted.now found.now) }
+{
+    let mut text = String::from_str(alloc, "Mismatch wanted ")?;
+    text.push_str(type_text(alloc, wanted)?.as_str())?;
+    text.push_str(" found ")?;
+    text.push_str(type_text(alloc, found)?.as_str())?;
+    Ok(text)
+}
+
+fn typing_text(alloc: Global, source: &[u8], fault: TypeFault) -> Result<String, Memory>
+    requires { length source.now ≤ max_source_len }
+    ensures { IfOk result (λ text. string_bytes text ≡ typing_text source.now fault) }
+{
+    let (span, name) = match fault {
+        TypeFault::Mismatch {
+            span,
+            wanted,
+            found,
+        } => {
+            let name = mismatch(alloc, &wanted, &found)?;
+            return Ok(at_place(alloc, source, span.from, name.as_str())?);
+        }
+        TypeFault::NoSuchCast { span } => (span, "NoSuchCast"),
+        TypeFault::WrongCount { span, .. } => (span, "WrongCount"),
+        TypeFault::BadTupleIndex { span } => (span, "BadTupleIndex"),
+        TypeFault::EmptyArray { span } => (span, "EmptyArray"),
+        TypeFault::MoreSigsThanKeys { span } => (span, "MoreSigsThanKeys"),
+        TypeFault::LiteralRange { span } => (span, "LiteralRange"),
+        TypeFault::NoFinalRequire { span } => (span, "NoFinalRequire"),
+        TypeFault::Memory => return Err(Memory),
+    };
+    Ok(at_place(alloc, source, span.from, name)?)
+}
+
 /// The line that refuses a source.
 ///
-/// It is `refused LINE:COL NAME`, where the name is that of the innermost fault; `refused NotUtf8 AT`; or `refused
-/// SourceTooLong`. A Syntax stands at its token, or at the end of the source.
+/// It is `refused LINE:COL NAME`, where the name is that of the innermost fault, and behind Mismatch come both types, as
+/// ` wanted TYPE found TYPE`; `refused NotUtf8 AT`; or `refused SourceTooLong`. A Syntax stands at its token, or at the
+/// end of the source.
 ///
 /// # Errors
 ///
@@ -119,6 +180,7 @@ pub fn refusal_text(alloc: Global, source: &[u8], refusal: Refusal) -> Result<St
         Refusal::Lex(fault) => lex_text(alloc, source, fault),
         Refusal::Parse(fault) => parse_text(alloc, source, fault),
         Refusal::Name(fault) => name_text(alloc, source, fault),
+        Refusal::Typing(fault) => typing_text(alloc, source, fault),
         Refusal::NotBuilt { span } => Ok(at_place(alloc, source, span.from, "NotBuilt")?),
         Refusal::Memory => Err(Memory),
     }

@@ -196,21 +196,43 @@ refused 1:1 NotBuilt|contract S(int x) { function f() { require(1 == 1); } }
 refused 2:1 NotBuilt|pragma cashscript ^0.7.0; // ~contract S() { function f() { require(1 != 1); } }
 refused 2:3 NoFunction| // é~\t contract S() {}
 refused 1:1 NotBuilt|contract S() { function f() { require(1 == 1); } function g() { require(1 == 1); } }
-refused 1:1 NotBuilt|contract S() { function f() {} }
 refused 1:1 NotBuilt|contract S() { function f() { require(1 == 1); require(1 == 1); } }
 refused 1:1 NotBuilt|contract S() { function f(int x) { require(tx.time >= x); } }
-refused 1:1 NotBuilt|contract S() { function f(int x) { require(x); } }
 refused 1:1 NotBuilt|contract S() { function f(int x) { require(x <= 1); } }
 refused 1:1 NotBuilt|contract S() { function f(int x) { require(x == 17); } }
 refused 1:1 NotBuilt|contract S() { function f(int x) { require(x == 2 finney); } }
 refused 1:1 NotBuilt|contract S() { function f(int x) { require(x == -1); } }
-refused 1:1 NotBuilt|contract S() { function f(int x) { require(x == 0x01); } }
 refused 1:49 UnknownName|contract S() { function f(int x) { require(x == y); } }
 refused 1:49 UnknownName|contract S() { function f(int x) { require(x == f); } }
 code|pragma cashscript ^0.7.0; contract S() { function f(int x, int y) { require(x == y); } }
 code|pragma cashscript 0.7.0; contract S() { function f(int x, int y) { require(x == y); } }
 refused 1:19 PragmaRefused|pragma cashscript 0.7.1; contract S() { function f(int x, int y) { require(x == y); } }
 refused 1:19 PragmaRefused|pragma cashscript ^0.6.0; contract Eq(int a) { function f(int b) { require(a == b); } }
+refused 1:16 NoFinalRequire|contract S() { function f() {} }
+refused 1:16 NoFinalRequire|contract S() { function f(int x) { if (x == 1) { require(x == 1); } else { x = 1; } } }
+refused 1:31 Mismatch wanted bool found int|contract U() { function f() { require(1); } }
+refused 1:36 Mismatch wanted bool found int|contract S() { function f(int x) { require(x); } }
+refused 1:44 Mismatch wanted int found bytes1|contract S() { function f(int x) { require(x == 0x01); } }
+refused 1:45 Mismatch wanted bytes1 found int|contract S() { function f(byte b) { require(b == 1); } }
+refused 1:56 Mismatch wanted bytes found string|contract S() { function f(bytes b, string t) { require(b == t); } }
+refused 1:39 Mismatch wanted bool found string|contract S() { function f(string t) { require(t); } }
+refused 1:40 Mismatch wanted bool found bytes20|contract S() { function f(bytes20 b) { require(b); } }
+refused 1:39 Mismatch wanted bool found pubkey|contract S() { function f(pubkey k) { require(k); } }
+refused 1:36 Mismatch wanted bool found sig|contract S() { function f(sig s) { require(s); } }
+refused 1:40 Mismatch wanted bool found datasig|contract S() { function f(datasig s) { require(s); } }
+refused 1:38 Mismatch wanted bool found pair|contract S() { function f(bytes b) { require(b.split(1)); } }
+refused 1:46 Mismatch wanted bytes found bytes[]|contract S() { function f(bytes b) { require(sha256([b]) == b); } }
+refused 1:61 Mismatch wanted sig found pubkey|contract S() { function f(pubkey k) { require(checkMultiSig([k], [k])); } }
+refused 1:37 Mismatch wanted int found bool|contract S(bool c) { function f() { int y = c; require(c); } }
+refused 1:45 NoSuchCast|contract S() { function f(bool b) { require(bytes(b) == 0x01); } }
+refused 1:44 WrongCount|contract S() { function f(int x) { require(within(x, 1)); } }
+refused 1:46 BadTupleIndex|contract S() { function f(bytes b) { require(b.split(1)[2] == b); } }
+refused 1:61 EmptyArray|contract S() { function f(pubkey k) { require(checkMultiSig([], [k])); } }
+refused 1:54 MoreSigsThanKeys|contract S() { function f(sig s, pubkey k) { require(checkMultiSig([s, s], [k])); } }
+refused 1:49 LiteralRange|contract S() { function f(int x) { require(x == 9223372036854775808); } }
+refused 1:56 UnknownName|contract S() { function f(int x) { require(x); require(y == 1); } }
+refused 1:1 NotBuilt|contract S() { function f(string t) { string a, string b = t.split(1); require(a == b); } }
+refused 1:1 NotBuilt|contract S() { function f(bytes x, bytes y) { require(x == y); } }
 refused 1:40 Redeclared|contract U() { function f(int z) { int z = 1; require(z == 1); } }
 refused 1:39 UnknownName|contract U() { function f() { require(z == 1); } }
 refused 1:56 AssignToConstant|contract S() { function f(int x) { int constant y = 1; y = x; require(x == y); } }
@@ -306,8 +328,11 @@ fn the_129th_if_is_too_deep(rt: HostRuntime) -> Result<(), Fail> {
     assert_eq!(rt; source.len(), 387);
     let span = Span { from: 384, to: 386 };
     let rule = DepthRule::Branches;
-    let fault = ParseFault::TooDeep { rule, span };
-    assert_eq!(rt; compile(alloc, source).err(), Some(Refusal::Parse(fault)));
+    let wanted = ParseFault::TooDeep { rule, span };
+    let Some(Refusal::Parse(fault)) = compile(alloc, source).err() else {
+        return Err("it is refused".into());
+    };
+    assert_eq!(rt; fault, wanted);
     Ok(())
 }
 

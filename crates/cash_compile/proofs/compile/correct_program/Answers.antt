@@ -9,7 +9,7 @@ returns c =
     let program = c.in_ok-program.program in
     let rows = c.args.rows.items in
     record {
-      correct = program_correct c.spend_is_decided.ensures c.tokens_cut_the_source.ensures c.reading_in_turn.ensures.end c.reading_behind_encoded.ensures c.meaning_of_spelled.ensures
+      correct = program_correct c.spend_is_decided.ensures c.tokens_cut_the_source.ensures c.reading_in_turn.ensures.end c.reading_behind_encoded.ensures c.meaning_of_spelled.ensures c.judged_once.ensures
           c.args.source.now c.args.contract.now rows program c.requires.accepted c.requires.agrees c.requires.few made.code made.describes;
       few = few_inputs c.args.source.now c.args.contract.now rows program (map places rows) c.requires.agrees made.describes;
     }

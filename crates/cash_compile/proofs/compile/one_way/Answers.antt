@@ -1,7 +1,7 @@
-use Rattle.cash_compile.proofs.Ways.{Laws, never_both_are, one_refusal_is}
+use Rattle.cash_compile.proofs.Ways.{Laws, decided_is, never_both_are, one_refusal_is}
 use Rattle.cash_compile.proofs.compile.one_way.Goals as goal
 
 pub returns : goal.returns
 returns c =
-    let laws : Laws = record { tree = c.one_tree.ensures; named = c.one_answer.ensures.one; apart = c.one_answer.ensures.apart } in
-    record { never_both = never_both_are laws; one_refusal = one_refusal_is laws }
+    let laws : Laws = record { tree = c.one_tree.ensures; named = c.one_answer.ensures.one; either = c.one_answer.ensures.either; apart = c.one_answer.ensures.apart; judged = c.judged_once.ensures } in
+    record { either = decided_is laws; never_both = never_both_are laws; one_refusal = one_refusal_is laws }
