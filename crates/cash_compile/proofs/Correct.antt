@@ -1,6 +1,6 @@
 -- Rows whose run agrees with the source's run make correct code: the spend of each pair of built scripts agrees with it.
-use Rattle.std.proofs.Common.{◌≡◌, ◌≢◌, eqb, ℕ, ◌+◌, ◌*◌, ◌≤◌, ◌<◌, ◌⊎◌, inl, inr, Bool, true, false, cond, List, [], ◌∷◌, ◌++◌, length, map, reverse, zero, suc, ◌/◌, ◌%◌, Option, Some, Result, Ok, refl, sym, ap, ◌∙◌, subst, arith}
-use Rattle.std.specs.Prelude.{slice_get, slice_index_or, IsTrue, nat_lt, nat_le, ◌==◌, ◌&&◌, if◌then◌else◌, unwrap_or}
+use Rattle.std.proofs.Common.{◌≡◌, ◌≢◌, eqb, ℕ, ◌+◌, ◌*◌, ◌≤◌, ◌<◌, ◌⊎◌, inl, inr, Bool, true, false, cond, List, [], ◌∷◌, ◌++◌, length, map, reverse, zero, suc, Option, Some, Result, Ok, refl, sym, ap, ◌∙◌, subst, arith}
+use Rattle.std.specs.Prelude.{slice_get, slice_index_or, IsTrue, nat_lt, ◌==◌, if◌then◌else◌, unwrap_or}
 use Rattle.std.specs.List.{AllByRecursion, list_all, enumerate_from}
 use Rattle.std.proofs.lemmas.Bool.{and_parts, eq-eqb, or_from, false≢true}
 use Rattle.std.proofs.lemmas.Bool.Decides.{eqb_tells}
@@ -27,7 +27,7 @@ use Rattle.tx_context.specs.Table as verdict
 use Rattle.script_codec.specs.declared.instr.Instr.{Instr}
 use Rattle.script_codec.specs.declared.spans.Spanned.{Spanned}
 use Rattle.script_codec.specs.Reading.{Raw, Piece, Whole, reading, spelled, instruction, is_minimal, size_of, push}
-use Rattle.script_codec.specs.Spelling.{are_instructions, is_instruction, spelling, spellings, minimal_push, push_prefix}
+use Rattle.script_codec.specs.Spelling.{are_instructions, is_instruction, spelling, spellings, minimal_push}
 use Rattle.script_codec.specs.Counting.{takes_keys, keys_for, keys_pushed, weight, counted_in}
 use Rattle.bch_vm.specs.declared.failure.Failure.{Failure}
 use Rattle.bch_vm.specs.declared.outcome.Which.TheVariants.{Redeem}
@@ -50,51 +50,31 @@ use Rattle.type_check.specs.Answer.{JudgedOnce}
 use Rattle.cash_names.specs.Outline.{NamedTree}
 use Rattle.cash_compile.specs.Compile.{IsAccepted}
 use Rattle.cash_compile.specs.Describes.{described_param, described_function, lossy_at, DescribesBy, Describes}
+use Rattle.cash_compile.proofs.Sizes.{push_size}
 use Rattle.cash_compile.proofs.Words.{ParamsHave, FunctionHas, NamesHave, IsTextAt, names_are_texts}
-use Rattle.cash_compile.specs.Decides.{Agrees as ByRun, FailsOrEndsFalse, EndsAs, DecidesByRun, AgreesByRun}
+use Rattle.cash_compile.specs.Decides.{AgreesAlone, FailsOrEndsFalse, EndsAs, DecidesByRun, AgreesByRun}
 use Rattle.unlocker.specs.Scripts.{spending_script, redeem_script}
 use Rattle.cash_compile.specs.Correct.{Agrees, SpendsAgree, IsCorrect}
 
 -- ---- what the unlocking script has at most
 
-shorter : (t : Bool) (x y : List ℕ) (n : ℕ) → length x ≤ n → length y ≤ n → length (cond t x y) ≤ n
-shorter true x y n a b = a
-shorter false x y n a b = b
-
-prefix_size : (n : ℕ) → length (push_prefix n) ≤ 3
-prefix_size n =
-    let three : List ℕ = 0x4d ∷ (n % 256) ∷ (n / 256) ∷ [] in
-    let two : List ℕ = 0x4c ∷ n ∷ [] in
-    shorter (nat_le n 75) (n ∷ []) (cond (nat_le n 255) two three) 3 (omega arith) (shorter (nat_le n 255) two three 3 (omega arith) (omega arith))
-
-push_size : (e : List ℕ) → length e ≤ 520 → length (minimal_push e) ≤ 523
-push_size [] size = omega arith
-push_size (b ∷ []) size =
-    let one : List ℕ = (0x50 + b) ∷ [] in
-    let negative : List ℕ = 0x4f ∷ [] in
-    let two : List ℕ = 1 ∷ b ∷ [] in
-    shorter (nat_le 1 b && nat_le b 16) one (cond (b == 0x81) negative two) 523 (omega arith) (shorter (b == 0x81) negative two 523 (omega arith) (omega arith))
-push_size (a ∷ b ∷ more) size =
-    let front = prefix_size (length (a ∷ b ∷ more)) in
-    let whole = length-append (push_prefix (length (a ∷ b ∷ more))) (a ∷ b ∷ more) in
-    omega (arith, front, whole, size)
-
 -- pushes of elements in any order
 pushes_size : (xs behind : Stack) → AllByRecursion IsElement xs → length (spellings (map push (reverse_aux xs behind))) ≤ 523 * length xs + length (spellings (map push behind))
 pushes_size [] behind all = omega arith
 pushes_size (x ∷ xs) behind all =
-    let one = push_size x all.0.size in
+    let one = push_size x in
+    let most = all.0.size in
     let rest = pushes_size xs (x ∷ behind) all.1 in
     let split = length-append (minimal_push x) (spellings (map push behind)) in
-    omega (arith, one, rest, split)
+    omega (arith, one, most, rest, split)
 
 unlocking_size : (args : Stack) (redeem : List ℕ) → AllByRecursion IsElement args → length args ≤ 16 → length redeem ≤ 520 → length (unlocking_script args redeem) ≤ 10000
 unlocking_size args redeem all few size =
     let pushes = pushes_size args [] all in
-    let last = push_size redeem size in
+    let last = push_size redeem in
     let whole = ap length (flat_map-append spelling (map push (reverse args)) (push redeem ∷ [])) ∙ length-append (spellings (map push (reverse args))) (minimal_push redeem ++ []) in
     let end = length-append (minimal_push redeem) [] in
-    omega (arith, pushes, last, whole, end, few)
+    omega (arith, pushes, last, size, whole, end, few)
 
 -- ---- how many opcodes count
 
@@ -245,7 +225,7 @@ spends_agree law reads contract rows h few ctor chosen function args frame verdi
 
 -- ---- the run alone decides
 
-ends_decide : (rows : List SpanRow) (outcome : SourceOutcome) (end : Result State Failure) → EndsAs rows outcome end → ByRun outcome (stack_at_end end)
+ends_decide : (rows : List SpanRow) (outcome : SourceOutcome) (end : Result State Failure) → EndsAs rows outcome end → AgreesAlone outcome (stack_at_end end)
 ends_decide rows Met end (s, is, one) = (one.0, ap stack_at_end is ∙ ap Ok one.1, one.2)
 ends_decide rows (Failed span cause) end (inl (at, is, place)) = subst (λ (r : Result State Failure). FailsOrEndsFalse (stack_at_end r)) (sym is) tt
 ends_decide rows (Failed span cause) end (inr (s, is, one, checks, place)) =

@@ -1,10 +1,9 @@
 -- The rows of a whole function agree with its contract.
-use Rattle.std.proofs.Common.{◌≡◌, ℕ, ◌+◌, ◌≤◌, ◌<◌, ◌⊎◌, inl, inr, Bool, true, false, cond, List, [], ◌∷◌, ◌++◌, length, map, replicate, ◌-◌, zero, suc, Some, Result, Ok, Err, refl, sym, ap, ◌∙◌, subst, arith}
-use Rattle.std.specs.Prelude.{slice_get, option_map, IsTrue}
+use Rattle.std.proofs.Common.{◌≡◌, ℕ, ◌+◌, ◌≤◌, ◌<◌, inl, inr, Bool, true, false, cond, List, [], ◌∷◌, ◌++◌, length, map, replicate, ◌-◌, zero, suc, Some, Result, Ok, Err, refl, sym, ap, ◌∙◌, subst, arith}
+use Rattle.std.specs.Prelude.{option_map}
 use Rattle.std.specs.List.{AllByRecursion, list_all}
 use Rattle.std.proofs.lemmas.Bool.{and_parts, and_from, eqb-true}
 use Rattle.std.proofs.lemmas.Option.{slice_get-map}
-use Rattle.cash_base.specs.declared.fault.Cause.{Cause}
 use Rattle.cash_base.specs.declared.fault.Cause.TheVariants.{CheckFailed}
 use Rattle.cash_base.specs.declared.fault.MachineCause.TheVariants.{Shared, EndFalse}
 use Rattle.cash_base.specs.declared.place.Slot.{Slot}
@@ -18,7 +17,7 @@ use Rattle.source_meaning.specs.declared.outcome.Failure as source
 use Rattle.source_meaning.specs.declared.outcome.SourceOutcome.{SourceOutcome}
 use Rattle.source_meaning.specs.Meaning.{Env, value_of, checked, fails, with_values, no_values, ended, env_after_kind, env_after_all, source_outcome}
 use Rattle.script_codec.specs.declared.spans.Spanned.{Spanned}
-use Rattle.script_codec.specs.Spelling.{is_instruction, are_instructions}
+use Rattle.script_codec.specs.Spelling.{are_instructions}
 use Rattle.bch_vm.specs.declared.failure.Failure.{Failure}
 use Rattle.bch_vm.specs.Stack.{Stack}
 use Rattle.bch_vm.specs.Script.{State, Progress, state, beginning, run, balanced, run_end}
@@ -26,7 +25,7 @@ use Rattle.span_map.specs.declared.SpanRow.{SpanRow}
 use Rattle.span_map.specs.Places.{place_in, place_of}
 use Rattle.cash_parser.specs.Inside.{IsInside}
 use Rattle.cash_compile.specs.Describes.{IsRowInside}
-use Rattle.cash_compile.specs.Rows.{RowFailure, run_rows, row, doings, instructions, places, is_span, is_row_of, are_rows_of, is_plain, AreFew}
+use Rattle.cash_compile.specs.Rows.{RowFailure, run_rows, row, doings, instructions, places, is_span, are_rows_of, is_plain, code_size, AreFew}
 use Rattle.cash_compile.specs.Decides.{EndsAs, AgreesByRun}
 use Rattle.source_meaning.specs.Runnable.{HaveSlotsFrom, env_of}
 use Rattle.source_meaning.proofs.Slots.{with_values-env_of}
@@ -85,8 +84,8 @@ all_plain statement (r ∷ rows) all =
     let parts = and_parts _ _ all in
     and_from _ _ (and_parts _ _ parts.0).0 (all_plain statement rows parts.1)
 
-pub are_few : (statement : Span) (rows : List Spanned) → are_rows_of statement rows ≡ true → length rows ≤ 150 → AreFew rows
-are_few statement rows belong count = record { count = count; plain = all_plain statement rows belong }
+pub are_few : (statement : Span) (rows : List Spanned) → are_rows_of statement rows ≡ true → length rows ≤ 150 → code_size rows ≤ 520 → AreFew rows
+are_few statement rows belong count size = record { count = count; size = size; plain = all_plain statement rows belong }
 
 -- ---- all places lie in the source
 

@@ -5,5 +5,6 @@ pub mod Emits
 pub mod FormShape
 pub mod Places
 pub mod Rows
+pub mod Sizes
 pub mod Ways
 pub mod Words

@@ -17,11 +17,12 @@ use Rattle.cash_parser.specs.Answer.{IsNone}
 use Rattle.cash_names.specs.Outline.{NamedTree}
 use Rattle.cash_names.specs.Scopes.{IsNamed, first_name_fault}
 use Rattle.type_check.specs.Answer.{IsTyped, first_type_fault}
-use Rattle.script_codec.specs.declared.instr.Instr.{Instr}
-use Rattle.cash_compile.specs.declared.compile.Compiled.{Compiled}
+use Rattle.script_codec.specs.Spelling.{spellings}
+use Rattle.artifact_json.specs.Artifact.{Artifact}
 use Rattle.cash_compile.specs.declared.refusal.Refusal.{Refusal}
 use Rattle.cash_compile.specs.declared.refusal.Refusal.TheVariants.{SourceTooLong, NotUtf8, Lex, Parse, Name, Typing, NotBuilt, Memory}
 use Rattle.cash_compile.specs.Form.{is_equality}
+use Rattle.cash_compile.specs.Describes.{no_time}
 use Rattle.cash_compile.specs.Correct.{IsCorrect}
 
 -- ---- the stages
@@ -64,13 +65,14 @@ pub record IsAccepted (source : List ℕ) (contract : Contract Slot Ty) : Type 0
   pub typed : HasTypes source contract
   pub formed : is_equality contract ≡ true
 
--- the source stands for the contract, and the program is correct for it
-abbrev pub IsCompiled : List ℕ → Compiled → Type 0
-IsCompiled source compiled = IsAccepted source compiled.contract × IsCorrect source compiled.contract compiled.program
-
--- the code of a program that is correct for the contract that the source stands for
-abbrev pub IsCodeOf : List ℕ → List Instr → Type 0
-IsCodeOf source code = (compiled : Compiled) × IsCompiled source compiled × (code ≡ compiled.program.code)
+-- The source stands for the contract, the program is correct for it, and its code can be pushed as one element: nothing
+-- stands before it in a redeem script so far, since no contract of the form has parameters of its own. The program tells no
+-- time.
+pub record IsCompiled (source : List ℕ) (contract : Contract Slot Ty) (program : Artifact) : Type 0 where
+  pub accepted : IsAccepted source contract
+  pub correct : IsCorrect source contract program
+  pub fits : length (spellings program.code) ≤ 520
+  pub updated : program.updated ≡ no_time
 
 -- ---- the refusals
 
@@ -85,11 +87,24 @@ abbrev pub IsRefused : List ℕ → Refusal → Type 0
 IsRefused source (SourceTooLong bytes) = (max_source_len < length source) × (bytes ≡ length source)
 IsRefused source (NotUtf8 at) = (length source ≤ max_source_len) × (IsUtf8 source → ⊥) × (at ≡ utf8_valid_len source)
 IsRefused source (Lex fault) = IsText source × (lexed source ≡ Err fault) × (fault ≢ lexer.Memory)
-IsRefused source (Parse fault) = (tokens : List Token) × HasTokens source tokens × IsFaultOf (lexemes source tokens) (length tokens) fault
+IsRefused source (Parse fault) = (tokens : List Token) × HasTokens source tokens
+    × IsFaultOf (lexemes source tokens) (length tokens) fault
 IsRefused source (Name fault) = (tree : Tree) × HasTree source tree × (first_name_fault source tree ≡ Some fault)
 IsRefused source (Typing fault) = (named : NamedTree) × HasNames source named × (first_type_fault named ≡ Some fault)
-IsRefused source (NotBuilt span) = (contract : Contract Slot Ty) × HasTypes source contract × (is_equality contract ≡ false) × (span ≡ contract.span)
+IsRefused source (NotBuilt span) = (contract : Contract Slot Ty) × HasTypes source contract × (is_equality contract ≡ false)
+    × (span ≡ contract.span)
 IsRefused source Memory = ⊥
+
+-- the number of the stage that gives nothing, in their order
+abbrev pub stage : Refusal → ℕ
+stage (SourceTooLong bytes) = 1
+stage (NotUtf8 at) = 2
+stage (Lex fault) = 3
+stage (Parse fault) = 4
+stage (Name fault) = 5
+stage (Typing fault) = 6
+stage (NotBuilt span) = 7
+stage Memory = 0
 
 -- the same refusal, but for the token that a Syntax names
 abbrev pub AreSame : Refusal → Refusal → Type 0

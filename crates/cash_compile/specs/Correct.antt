@@ -59,11 +59,13 @@ IsPlacedAt rows before at cause span = (k : ℕ) × (at ≡ before + k) × (plac
 -- the same cause, at the place of the failing instruction. Nothing else goes together.
 abbrev pub Agrees : List SpanRow → ℕ → MachineOutcome → SourceOutcome → Type 0
 Agrees rows before Accepted Met = Unit {0}
-Agrees rows before (Refused Redeem at cause) (Failed span fault) = IsPlacedAt rows before at cause span × IsSameCause cause fault
+Agrees rows before (Refused Redeem at cause) (Failed span fault) = IsPlacedAt rows before at cause span
+    × IsSameCause cause fault
 Agrees rows before _ _ = ⊥
 
 -- the context in which a frame's active input is spent by the scripts of some elements
-abbrev pub spending_context : Contract Slot Ty → List Instr → List (List ℕ) → ℕ → List (List ℕ) → Transaction Locking → Transaction (List ℕ)
+abbrev pub spending_context : Contract Slot Ty → List Instr → List (List ℕ) → ℕ → List (List ℕ) → Transaction Locking
+    → Transaction (List ℕ)
 spending_context contract code ctor chosen args frame =
     filled_context frame (locking_script (redeem_script code ctor))
     (spending_script (length contract.functions) chosen args (redeem_script code ctor))

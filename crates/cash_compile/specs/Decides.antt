@@ -36,9 +36,9 @@ FailsOrEndsFalse (Ok stack) = EndsIn false (Ok stack)
 
 -- Where the source's run is met the machine's ends with one true element, and where it fails the machine's fails or
 -- ends with one false element.
-abbrev pub Agrees : SourceOutcome → Result Stack Failure → Type 0
-Agrees Met outcome = EndsIn true outcome
-Agrees (Failed span cause) outcome = FailsOrEndsFalse outcome
+abbrev pub AgreesAlone : SourceOutcome → Result Stack Failure → Type 0
+AgreesAlone Met outcome = EndsIn true outcome
+AgreesAlone (Failed span cause) outcome = FailsOrEndsFalse outcome
 
 -- The contract has one function and no constructor parameters, and for every list of argument elements of the right
 -- count, the first on top, the run of the code agrees with the run of the source.
@@ -47,7 +47,7 @@ pub record DecidesByRun (contract : Contract Slot Ty) (code : List Instr) : Type
   pub only : contract.functions ≡ function ∷ []
   pub alone : contract.params ≡ []
   pub agrees : (args : List (List ℕ)) → length args ≡ length function.params → AllByRecursion IsElement args
-      → Agrees (source_outcome contract [] function args) (run_outcome code args)
+      → AgreesAlone (source_outcome contract [] function args) (run_outcome code args)
 
 -- ---- with places
 
@@ -63,7 +63,8 @@ FailsAt rows span cause end =
 -- a check was false, and its value is all that is left; the last executed row has the place
 abbrev pub EndsFalseAt : List SpanRow → Span → Cause → Result State Failure → Type 0
 EndsFalseAt rows span cause end =
-    (s : State) × (end ≡ Ok s) × LeavesOne false s × (cause ≡ CheckFailed) × (place_of rows s.progress.last EndFalse ≡ Some span)
+    (s : State) × (end ≡ Ok s) × LeavesOne false s × (cause ≡ CheckFailed)
+    × (place_of rows s.progress.last EndFalse ≡ Some span)
 
 -- Where the source's run is met the machine's ends with one true element. Where it fails the machine's fails with the
 -- same cause at the same place, or the value of the failed check is left.

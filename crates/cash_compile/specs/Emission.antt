@@ -26,8 +26,8 @@ use Rattle.cash_compile.specs.Rows.{RowFailure, run_rows, places}
 
 -- ---- what can be emitted
 
--- the most nodes of an expression: its code has at most two instructions for each, and so stays within the 201 opcodes
--- of a script
+-- the most nodes of an expression: its code has at most two instructions for each, of at most 7 bytes for each and 6 more, and
+-- so stays within the 201 opcodes and the 520 bytes of a redeem script
 abbrev pub most_nodes : ℕ
 most_nodes = 64
 
@@ -89,7 +89,8 @@ Leaves below (Err failure) next =
 
 -- above so many operands, and below them the elements of the parameters, the rows leave the value
 pub record Follows (params depth : ℕ) (rows : List Spanned) (value : Value) : Type 0 where
-  pub runs : (operands args : List (List ℕ)) (env : Env) (at : Progress) → length operands ≡ depth → length args ≡ params → HoldsArgs env args
+  pub runs : (operands args : List (List ℕ)) (env : Env) (at : Progress) → length operands ≡ depth → length args ≡ params
+      → HoldsArgs env args
       → Leaves (operands ++ args) (value env) (run_rows rows (state (operands ++ args) at))
 
 -- what an emitter added leaves the value

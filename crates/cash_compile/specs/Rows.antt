@@ -7,7 +7,7 @@ use Rattle.cash_base.specs.Failing.{◌>>=◌}
 use Rattle.script_codec.specs.declared.instr.Instr.{Instr}
 use Rattle.script_codec.specs.declared.spans.Spanned.{Spanned}
 use Rattle.script_codec.specs.declared.instr.Instr.TheVariants.{Push, Do}
-use Rattle.script_codec.specs.Spelling.{is_instruction}
+use Rattle.script_codec.specs.Spelling.{is_instruction, spellings}
 use Rattle.script_codec.specs.Counting.{takes_keys}
 use Rattle.bch_vm.specs.declared.failure.Failure.{Failure}
 use Rattle.bch_vm.specs.Script.{State, state_after}
@@ -39,7 +39,7 @@ is_keyless (Do opcode) = not (takes_keys opcode.0)
 abbrev pub is_span : Span → Span → Bool
 is_span a b = (a.from == b.from) && (a.to == b.to)
 
--- an instruction that can be spelled
+-- an instruction that can be spelled, and asks for no keys
 abbrev pub is_plain : Instr → Bool
 is_plain instr = is_instruction instr && is_keyless instr
 
@@ -50,9 +50,14 @@ is_row_of statement r = is_plain r.instr && is_span r.checking statement
 abbrev pub are_rows_of : Span → List Spanned → Bool
 are_rows_of statement rows = list_all (is_row_of statement) rows
 
--- so few rows that no run of them comes to a limit of the machine
+-- how many bytes their instructions are spelled in
+abbrev pub code_size : List Spanned → ℕ
+code_size rows = length (spellings (instructions rows))
+
+-- so few rows, of so few bytes, that no run of them comes to a limit of the machine
 pub record AreFew (rows : List Spanned) : Type 0 where
   pub count : length rows ≤ 150
+  pub size : code_size rows ≤ 520
   pub plain : IsTrue (list_all is_plain (instructions rows))
 
 -- ---- a run of rows

@@ -1,15 +1,16 @@
 //! From a source to the program of its contract.
 
-ghost use Rattle.std.specs.Prelude.{◌≡◌, ◌≢◌, ◌⊎◌, ◌^◌, ◌<◌, ℕ, List, length, map, IfOk, IfErr};
+ghost use Rattle.std.specs.Prelude.{◌≡◌, ◌≢◌, ◌⊎◌, ◌^◌, ◌<◌, ◌≤◌, ℕ, List, length, map, IfOk, IfErr};
 ghost use Rattle.std.specs.List.{AllByRecursion};
 ghost use Rattle.cash_base.specs.declared.place.Slot.{Slot};
 ghost use Rattle.cash_tree.specs.declared.Ty.{Ty};
 ghost use Rattle.cash_tree.specs.declared.Contract.{Contract as CashContract};
+ghost use Rattle.script_codec.specs.Spelling.{spellings};
 ghost use Rattle.artifact_json.specs.Artifact.{HasFewInputs};
 ghost use Rattle.cash_compile.specs.declared.refusal.Refusal.{Refusal as Cause};
 ghost use Rattle.cash_compile.specs.declared.refusal.Refusal.TheVariants.{Memory as WithoutMemory};
 ghost use Rattle.cash_compile.specs.Rows.{places, AreFew};
-ghost use Rattle.cash_compile.specs.Describes.{IsRowInside};
+ghost use Rattle.cash_compile.specs.Describes.{IsRowInside, no_time};
 ghost use Rattle.cash_compile.specs.Decides.{AgreesByRun};
 ghost use Rattle.cash_compile.specs.Correct.{IsCorrect};
 ghost use Rattle.cash_compile.specs.Compile.{IsAccepted, IsCompiled, IsRefused, AreSame};
@@ -38,7 +39,7 @@ pub struct Compiled {
     pub contract: TypedContract,
 }
 
-/// The contract that a source stands for, and a program that is correct for it.
+/// The contract that a source stands for, and a program that is correct for it, of at most 520 bytes of code.
 ///
 /// Each spend that is built of the program ends as the run of the source: accepted where the run is met, and otherwise
 /// refused in the redeem script, with the cause and at the place of the run's failure. Each refusal comes
@@ -48,7 +49,7 @@ pub struct Compiled {
 #[tactic(auto, using(crate::proofs::Accepted::equality_emittable))]
 pub fn compile(alloc: Global, source: &[u8]) -> Result<Compiled, Refusal>
     requires { length source.now < 2 ^ 32 }
-    ensures compiled { IfOk result (λ compiled. IsCompiled source.now compiled) }
+    ensures compiled { IfOk result (λ compiled. IsCompiled source.now compiled.contract compiled.program) }
     ensures few { IfOk result (λ compiled. HasFewInputs compiled.program) }
     ensures refused { IfErr result (λ refusal. refusal ≢ WithoutMemory → IsRefused source.now refusal) }
 {
@@ -75,6 +76,8 @@ fn correct_program(
     requires few { AreFew rows.items }
     requires inside { AllByRecursion (IsRowInside (length source.now)) (map places rows.items) }
     ensures correct { IfOk result (λ program. IsCorrect source.now contract.now program) }
+    ensures fits { IfOk result (λ program. length (spellings program.code) ≤ 520) }
+    ensures updated { IfOk result (λ program. program.updated ≡ no_time) }
     ensures few { IfOk result (λ program. HasFewInputs program) }
 {
     tokens_cut_the_source();

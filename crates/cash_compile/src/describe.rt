@@ -6,7 +6,7 @@ ghost use Rattle.cash_parser.specs.Lexemes;
 ghost use Rattle.std.specs.Str.{IsUtf8};
 ghost use Rattle.script_codec.specs.Spelling.{are_instructions};
 ghost use Rattle.cash_compile.specs.Rows.{instructions, places};
-ghost use Rattle.cash_compile.specs.Describes.{IsRowInside, lossy_at, described_param, described_function, DescribesBy};
+ghost use Rattle.cash_compile.specs.Describes.{IsRowInside, lossy_at, described_param, described_function, no_time, DescribesBy};
 
 use artifact_json::{AbiFunction, AbiInput, Program};
 use cash_base::{Memory, Slot, Span};
@@ -30,7 +30,9 @@ pub fn program_of(
     requires utf8 { IsUtf8 source.now }
     requires inside { AllByRecursion (IsRowInside (length source.now)) (map places rows.items) }
     ensures code { IfOk result (λ program. program.code ≡ instructions rows.items) }
-    ensures describes { IfOk result (λ program. DescribesBy (lossy_at source.now) source.now contract.now program (map places rows.items)) }
+    ensures updated { IfOk result (λ program. program.updated ≡ no_time) }
+    ensures describes { IfOk result (λ program.
+        DescribesBy (lossy_at source.now) source.now contract.now program (map places rows.items)) }
 {
     let ctor = inputs_of(alloc, source, contract.params.as_slice())?;
     let abi = functions_of(alloc, source, contract.functions.as_slice())?;

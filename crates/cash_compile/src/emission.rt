@@ -1,17 +1,19 @@
 //! From a typed contract to instructions with their places.
 
-ghost use Rattle.std.specs.Prelude.{◌≡◌, ◌+◌, ◌*◌, ◌≤◌, ◌<◌, ◌^◌, [], ◌∷◌, ◌++◌, length, map, pos, true, ℕ, IsTrue, OnOk, IfOk, replicate};
+ghost use Rattle.std.specs.Prelude.{◌≡◌, ◌+◌, ◌*◌, ◌≤◌, ◌<◌, ◌^◌, [], ◌∷◌, ◌++◌, length, map, pos, negsuc, ◌<ℤ◌, true, ℕ, IsTrue, OnOk, IfOk, replicate};
 ghost use Rattle.std.specs.List.{AllByRecursion};
+ghost use Rattle.cash_base.specs.Number.{minimal_bytes};
 ghost use Rattle.cash_tree.specs.declared.ExprKind.TheOpen.{ExprKind-F};
 ghost use Rattle.source_meaning.specs.Meaning.{value_of, kind_value};
 ghost use Rattle.source_meaning.specs.Runnable.{has_meaning, is_runnable, nodes};
-ghost use Rattle.script_codec.specs.declared.instr.Instr.TheVariants.{Do};
-ghost use Rattle.cash_compile.specs.Rows.{row, doings, places, is_plain, are_rows_of, AreFew};
+ghost use Rattle.script_codec.specs.declared.instr.Instr.TheVariants.{Push, Do};
+ghost use Rattle.script_codec.specs.Spelling.{spelling};
+ghost use Rattle.cash_compile.specs.Rows.{row, doings, places, code_size, is_plain, are_rows_of, AreFew};
 ghost use Rattle.cash_compile.specs.Decides.{AgreesByRun};
 ghost use Rattle.cash_compile.specs.Describes.{IsRowInside};
 ghost use Rattle.cash_compile.specs.Emission.{Emits, IsEmittable, IsContractInside, kind_told, told_of};
 
-use cash_base::{Slot, Span, write_number};
+use cash_base::{Element, Slot, Span, write_number};
 use cash_tree::{BinaryOp, Expr, ExprKind, StmtKind, Ty, TypedContract};
 use script_codec::{Instr, Opcode, Spanned};
 use std::alloc::{AllocError, Global};
@@ -24,16 +26,27 @@ pub struct Emitter {
     pub statement: Span,
 }
 
+/// The element of a number, which is pushed in at most 12 bytes.
+fn number(n: i64) -> Element
+    requires { negsuc 9223372036854775807 <ℤ n }
+    ensures value { result.items ≡ minimal_bytes n }
+    ensures size { length (spelling (Push result)) ≤ 12 }
+{
+    write_number(n)
+}
+
 impl Emitter {
-    #[tactic(auto, using(crate::proofs::Emits::row_put))]
+    #[tactic(auto, using(crate::proofs::Emits::row_put, crate::proofs::Sizes::size_put))]
     fn put(&mut self, instr: Instr, doing: Span) -> Result<(), AllocError>
         requires { IsTrue (is_plain instr) }
         ensures rows { OnOk result (self.new.rows.items ≡ self.old.rows.items ++ row instr doing self.old.statement ∷ []) }
         ensures told { OnOk result (doings self.new.rows.items ≡ doings self.old.rows.items ++ doing ∷ []) }
         ensures params { self.new.params ≡ self.old.params }
         ensures statement { self.new.statement ≡ self.old.statement }
-        ensures belong { OnOk result (are_rows_of self.old.statement self.new.rows.items ≡ are_rows_of self.old.statement self.old.rows.items) }
+        ensures belong { OnOk result (are_rows_of self.old.statement self.new.rows.items
+            ≡ are_rows_of self.old.statement self.old.rows.items) }
         ensures count { OnOk result (length self.new.rows.items ≡ length self.old.rows.items + 1) }
+        ensures size { OnOk result (code_size self.new.rows.items ≡ code_size self.old.rows.items + length (spelling instr)) }
     {
         let checking = self.statement;
         self.rows.push(Spanned {
@@ -54,13 +67,16 @@ impl Emitter {
     ) -> Result<(), AllocError>
         requires { digits * unit < 2 ^ 63 }
         ensures emits { OnOk result (Emits self.old self.new depth (kind_value (ExprKind-F.Int digits unit) span)) }
-        ensures belong { OnOk result (are_rows_of self.old.statement self.new.rows.items ≡ are_rows_of self.old.statement self.old.rows.items) }
+        ensures belong { OnOk result (are_rows_of self.old.statement self.new.rows.items
+            ≡ are_rows_of self.old.statement self.old.rows.items) }
         ensures count { OnOk result (length self.new.rows.items ≤ length self.old.rows.items + 2) }
+        ensures size { OnOk result (code_size self.new.rows.items ≤ code_size self.old.rows.items + 13) }
         ensures more { OnOk result (length self.old.rows.items < length self.new.rows.items) }
-        ensures told { OnOk result (doings self.new.rows.items ≡ doings self.old.rows.items ++ kind_told (ExprKind-F.Int digits unit) span) }
+        ensures told { OnOk result (doings self.new.rows.items
+            ≡ doings self.old.rows.items ++ kind_told (ExprKind-F.Int digits unit) span) }
     {
         let n = digits * u128::from(unit);
-        self.put(Instr::Push(write_number(n as i64)), span)?;
+        self.put(Instr::Push(number(n as i64)), span)?;
         Ok(())
     }
 
@@ -69,25 +85,31 @@ impl Emitter {
         requires known { slot.0 < self.old.params }
         requires room { depth ≤ 1000 }
         ensures emits { OnOk result (Emits self.old self.new depth (kind_value (ExprKind-F.Name slot) span)) }
-        ensures belong { OnOk result (are_rows_of self.old.statement self.new.rows.items ≡ are_rows_of self.old.statement self.old.rows.items) }
+        ensures belong { OnOk result (are_rows_of self.old.statement self.new.rows.items
+            ≡ are_rows_of self.old.statement self.old.rows.items) }
         ensures count { OnOk result (length self.new.rows.items ≤ length self.old.rows.items + 2) }
+        ensures size { OnOk result (code_size self.new.rows.items ≤ code_size self.old.rows.items + 13) }
         ensures more { OnOk result (length self.old.rows.items < length self.new.rows.items) }
-        ensures told { OnOk result (doings self.new.rows.items ≡ doings self.old.rows.items ++ kind_told (ExprKind-F.Name slot) span) }
+        ensures told { OnOk result (doings self.new.rows.items
+            ≡ doings self.old.rows.items ++ kind_told (ExprKind-F.Name slot) span) }
     {
         let below = depth + usize::from(slot.0);
-        self.put(Instr::Push(write_number(below as i64)), span)?;
+        self.put(Instr::Push(number(below as i64)), span)?;
         self.put(Instr::Do(Opcode::PICK), span)?;
         Ok(())
     }
 
     fn operator(&mut self, op: BinaryOp, span: Span) -> Result<(), AllocError>
         requires { IsTrue (has_meaning op) }
-        ensures rows { OnOk result (self.new.rows.items ≡ self.old.rows.items ++ row (Do (record { 0 = 0x9c })) span self.old.statement ∷ []) }
+        ensures rows { OnOk result (self.new.rows.items
+            ≡ self.old.rows.items ++ row (Do (record { 0 = 0x9c })) span self.old.statement ∷ []) }
         ensures told { OnOk result (doings self.new.rows.items ≡ doings self.old.rows.items ++ span ∷ []) }
         ensures params { self.new.params ≡ self.old.params }
         ensures statement { self.new.statement ≡ self.old.statement }
-        ensures belong { OnOk result (are_rows_of self.old.statement self.new.rows.items ≡ are_rows_of self.old.statement self.old.rows.items) }
+        ensures belong { OnOk result (are_rows_of self.old.statement self.new.rows.items
+            ≡ are_rows_of self.old.statement self.old.rows.items) }
         ensures count { OnOk result (length self.new.rows.items ≡ length self.old.rows.items + 1) }
+        ensures size { OnOk result (code_size self.new.rows.items ≡ code_size self.old.rows.items + 1) }
     {
         match op {
             BinaryOp::Equal => self.put(Instr::Do(Opcode::NUMEQUAL), span)?,
@@ -101,8 +123,10 @@ impl Emitter {
         requires runnable { IsTrue (is_runnable e.now self.old.params) }
         requires room { depth + nodes e.now ≤ 1000 }
         ensures emits { OnOk result (Emits self.old self.new depth (value_of e.now)) }
-        ensures belong { OnOk result (are_rows_of self.old.statement self.new.rows.items ≡ are_rows_of self.old.statement self.old.rows.items) }
+        ensures belong { OnOk result (are_rows_of self.old.statement self.new.rows.items
+            ≡ are_rows_of self.old.statement self.old.rows.items) }
         ensures count { OnOk result (length self.new.rows.items ≤ length self.old.rows.items + 2 * nodes e.now) }
+        ensures size { OnOk result (code_size self.new.rows.items ≤ code_size self.old.rows.items + 7 * nodes e.now + 6) }
         ensures more { OnOk result (length self.old.rows.items < length self.new.rows.items) }
         ensures told { OnOk result (doings self.new.rows.items ≡ doings self.old.rows.items ++ told_of e.now) }
     {
@@ -124,8 +148,10 @@ impl Emitter {
     fn drop_params(&mut self) -> Result<(), AllocError>
         ensures rows { OnOk result (self.new.rows.items ≡ self.old.rows.items
             ++ replicate self.old.params (row (Do (record { 0 = 0x77 })) self.old.statement self.old.statement)) }
-        ensures belong { OnOk result (are_rows_of self.old.statement self.new.rows.items ≡ are_rows_of self.old.statement self.old.rows.items) }
+        ensures belong { OnOk result (are_rows_of self.old.statement self.new.rows.items
+            ≡ are_rows_of self.old.statement self.old.rows.items) }
         ensures count { OnOk result (length self.new.rows.items ≡ length self.old.rows.items + self.old.params) }
+        ensures size { OnOk result (code_size self.new.rows.items ≡ code_size self.old.rows.items + self.old.params) }
     {
         for _ in 0..self.params {
             self.put(Instr::Do(Opcode::NIP), self.statement)?;

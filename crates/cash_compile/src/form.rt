@@ -1,6 +1,6 @@
 //! The form of contract that is built so far.
 
-ghost use Rattle.std.specs.Prelude.{◌≡◌, ◌≤◌, ◌+◌, length, IsTrue};
+ghost use Rattle.std.specs.Prelude.{◌≡◌, ◌≤◌, ◌+◌, length};
 ghost use Rattle.cash_compile.specs.Form;
 ghost use Rattle.cash_compile.specs.Form.{opened};
 

@@ -9,7 +9,7 @@ ghost use Rattle.cash_parser.specs.Inside.{AreInside, tree_spans};
 ghost use Rattle.type_check.specs.Untyped.{untyped_contract};
 ghost use Rattle.cash_compile.specs.Form.{is_equality};
 ghost use Rattle.cash_compile.specs.Emission.{IsContractInside};
-ghost use Rattle.cash_compile.specs.Compile.{IsText, HasTokens, HasTree, HasNames, HasTypes, IsRefused};
+ghost use Rattle.cash_compile.specs.Compile.{IsText, HasTokens, HasTree, HasNames, HasTypes, IsRefused, stage};
 
 use crate::refusal::Refusal;
 use cash_lexer::LexFault;
@@ -27,6 +27,7 @@ fn text_of(source: &[u8]) -> Result<&str, Refusal>
     requires { length source.now < 2 ^ 32 }
     ensures text { IfOk result (λ text. (text.now ≡ source.now) × IsText source.now) }
     ensures refused { IfErr result (λ refusal. IsRefused source.now refusal) }
+    ensures stage { IfErr result (λ refusal. stage refusal ≤ 2) }
 {
     if source.len() > MAX_SOURCE_LEN {
         let bytes = source.len() as u32;
@@ -46,6 +47,7 @@ fn tokens_of(alloc: Global, text: &str) -> Result<Vec<Token>, Refusal>
     requires { IsText text.now }
     ensures cut { IfOk result (λ tokens. HasTokens text.now tokens.items) }
     ensures refused { IfErr result (λ refusal. refusal ≢ Memory → IsRefused text.now refusal) }
+    ensures stage { IfErr result (λ refusal. stage refusal ≤ 3) }
 {
     match cash_lexer::tokens(alloc, text) {
         Ok(tokens) => Ok(tokens),
@@ -60,6 +62,7 @@ fn tree_of(alloc: Global, text: &str) -> Result<Tree, Refusal>
     ensures parsed { IfOk result (λ tree. HasTree text.now tree) }
     ensures inside { IfOk result (λ tree. AreInside (length text.now) (tree_spans tree)) }
     ensures refused { IfErr result (λ refusal. refusal ≢ Memory → IsRefused text.now refusal) }
+    ensures stage { IfErr result (λ refusal. stage refusal ≤ 4) }
 {
     tokens_stand_in_order();
     let tokens = tokens_of(alloc, text)?;
@@ -82,6 +85,7 @@ pub fn named_tree_of(alloc: Global, source: &[u8]) -> Result<NamedTree, Refusal>
     ensures inside { IfOk result (λ named. (contract : CashContract Slot Ty) → untyped_contract contract ≡ named
         → IsTrue (is_equality contract) → IsContractInside (length source.now) contract) }
     ensures refused { IfErr result (λ refusal. refusal ≢ Memory → IsRefused source.now refusal) }
+    ensures stage { IfErr result (λ refusal. stage refusal ≤ 5) }
 {
     spans_come_apart();
     let text = text_of(source)?;
@@ -104,6 +108,7 @@ pub fn typed_contract_of(alloc: Global, source: &[u8]) -> Result<TypedContract, 
     ensures typed { IfOk result (λ contract. HasTypes source.now contract) }
     ensures inside { IfOk result (λ contract. IsTrue (is_equality contract) → IsContractInside (length source.now) contract) }
     ensures refused { IfErr result (λ refusal. refusal ≢ Memory → IsRefused source.now refusal) }
+    ensures stage { IfErr result (λ refusal. stage refusal ≤ 6) }
 {
     let named = named_tree_of(alloc, source)?;
     match check(alloc, &named) {

@@ -9,13 +9,13 @@ use Rattle.cashc.specs.TopCall.{Command, command_of, usage, IsFile, IsJudged, Is
 
 -- a source and a file of arguments that were read, and what their spend comes to
 pub report_shown : (files then_ : Option Files) (name spend_name bytes source again spend_bytes spend : List ℕ) (compiled : Compiled) (status : ℕ) (text : List ℕ)
-    → IsFile files name bytes → source ≡ bytes → IsCompiled source compiled → then_ ≡ files → IsFile then_ spend_name spend_bytes → again ≡ bytes → spend ≡ spend_bytes
+    → IsFile files name bytes → source ≡ bytes → IsCompiled source compiled.contract compiled.program → then_ ≡ files → IsFile then_ spend_name spend_bytes → again ≡ bytes → spend ≡ spend_bytes
     → IsJudged again compiled.contract compiled.program spend status text → IsReport files name spend_name status text
 report_shown files then_ name spend_name bytes source again spend_bytes spend compiled status text found is built kept beside same whole judged = record {
   source = source;
   contract = compiled.contract;
   program = compiled.program;
-  built = record { found = subst (λ (b : List ℕ). IsFile files name b) (sym is) found; accepted = built.0; correct = built.1 };
+  built = record { found = subst (λ (b : List ℕ). IsFile files name b) (sym is) found; compiled = built };
   spend = spend;
   beside = subst (λ (b : List ℕ). IsFile files spend_name b) (sym whole) (subst (λ (fs : Option Files). IsFile fs spend_name spend_bytes) kept beside);
   judged = subst (λ (s : List ℕ). IsJudged s compiled.contract compiled.program spend status text) (same ∙ sym is) judged;

@@ -1,9 +1,8 @@
 -- A report of a program that is correct for a contract tells of the run of the source too.
-use Rattle.std.proofs.Common.{◌≡◌, ℕ, ◌+◌, ◌≤◌, Bool, true, false, cond, List, [], ◌∷◌, ◌++◌, length, map, Option, Some, None, Result, Ok, Err, inl, inr, refl, sym, ap, ◌∙◌, subst, arith}
-use Rattle.std.specs.Prelude.{slice_get, nat_le, ◌==◌, codes}
+use Rattle.std.proofs.Common.{◌≡◌, ◌≢◌, ℕ, ◌+◌, ◌≤◌, Bool, true, false, cond, List, [], ◌∷◌, length, map, Option, Some, None, Result, Ok, Err, inl, inr, refl, sym, ap, ◌∙◌, subst, arith}
+use Rattle.std.specs.Prelude.{slice_get, nat_le, ◌==◌}
 use Rattle.std.specs.List.{AllByRecursion}
-use Rattle.std.specs.Fmt.{decimal}
-use Rattle.std.proofs.lemmas.Bool.{eqb-true, leb-true}
+use Rattle.std.proofs.lemmas.Bool.{eqb-true, eq-eqb, leb-true, le-leb, false≢true}
 use Rattle.std.proofs.lemmas.List.{length-map}
 use Rattle.cash_base.specs.Failing.{◌>>=◌}
 use Rattle.cash_base.specs.Element.{IsElement}
@@ -29,19 +28,25 @@ use Rattle.bch_vm.specs.Spend.{spend_outcome}
 use Rattle.span_map.specs.declared.SpanRow.{SpanRow}
 use Rattle.span_map.specs.Lines.{line_col}
 use Rattle.span_map.specs.Places.{place_of}
-use Rattle.artifact_json.specs.Artifact.{Artifact, AbiCall}
+use Rattle.artifact_json.specs.Artifact.{Artifact, AbiCall, HasFewInputs}
 use Rattle.unlocker.specs.declared.BuildFault.{BuildFault}
 use Rattle.unlocker.specs.declared.BuildFault.TheVariants.{WrongCount, RedeemTooLong}
 use Rattle.unlocker.specs.Scripts.{redeem_script, spending_script}
 use Rattle.unlocker.specs.Building.{capped, count_check, chosen_function, built_unlocking}
 use Rattle.spend_debug.specs.declared.spends.SpendStop.{SpendStop}
+use Rattle.spend_debug.specs.declared.spends.SpendStop.TheVariants.{Build}
+use Rattle.spend_debug.specs.declared.report.InputStop.{InputStop}
+use Rattle.spend_debug.specs.declared.report.InputStop.TheVariants as stops
 use Rattle.spend_debug.specs.SpendLines.{spend_elements}
 use Rattle.spend_debug.specs.SpendDebug.{SpendParts, plain_frame, or_stop, built_scripts, outcome_of, told_of}
-use Rattle.spend_debug.specs.Telling.{Told, LineCol, at_place, told_place, told_name, cause_name, verdict_line}
+use Rattle.spend_debug.specs.Telling.{Told, told_place, placed_name, cause_name, verdict_line, failure_line, build_stop}
 use Rattle.cash_compile.specs.Describes.{described_function}
+use Rattle.cash_compile.specs.Compile.{IsCompiled}
 use Rattle.cash_compile.specs.Correct.{Admits, IsSameCause, Agrees, IsCorrect}
-use Rattle.cashc.specs.TopCall.{plain_spend, IsVerdict, IsJudged, report}
-use Rattle.cashc.specs.Answering.{outcome_status, report_status, placed_report}
+use Rattle.cashc.specs.declared.commands.Stop.{Stop}
+use Rattle.cashc.specs.declared.commands.Stop.TheVariants as stopped
+use Rattle.cashc.specs.TopCall.{plain_spend, IsVerdict, IsJudged, IsCountStop, report}
+use Rattle.cashc.specs.Answering.{HasInputCause, HasScriptsCause, HasSpendCause, outcome_status, report_status, placed_report}
 
 -- ---- scripts that are built
 
@@ -121,42 +126,111 @@ admitted source contract program h args built is elements =
       size = fit.size;
     }
 
+-- ---- why no scripts are built
+
+past_redeem : (t u : Bool) (s : List ℕ) (miscounted long : BuildFault) (then_ : List ℕ → Result Scripts SpendStop) → t ≡ true → u ≡ true
+    → (or_stop (cond t counted (Err miscounted) >>= λ c. cond u (Ok s) (Err long)) >>= then_) ≡ then_ s
+past_redeem true true s miscounted long then_ counts fits_ = refl
+past_redeem true false s miscounted long then_ counts fits_ = absurd (false≢true fits_)
+past_redeem false u s miscounted long then_ counts fits_ = absurd (false≢true counts)
+
+abbrev with_redeem : List ℕ → List ℕ → Result Scripts SpendStop
+with_redeem redeem unlocking = Ok (redeem, unlocking)
+
+-- what the unlocking script comes to, by the function that is found
+abbrev behind_redeem : List (List ℕ) → List ℕ → List ℕ → Option AbiCall → Result Scripts SpendStop
+behind_redeem args redeem s found =
+    or_stop (chosen_function found >>= λ function. count_check (length function.inputs) (length args) >>= λ c. Ok s) >>= with_redeem redeem
+
+by_count : (t : Bool) (s redeem : List ℕ) (wanted found : ℕ) (fault : BuildFault) (stop : InputStop)
+    → (or_stop (cond t counted (Err (WrongCount wanted found)) >>= λ c. Ok s) >>= with_redeem redeem) ≡ Err (Build fault) → build_stop fault ≡ Some stop
+    → (t ≡ false) × (stop ≡ stops.WrongCount wanted found)
+by_count true s redeem wanted found fault stop is told = absurd cc
+by_count false s redeem wanted found fault stop is told =
+    let same : WrongCount wanted found ≡ fault = cc in
+    let only : Some (stops.WrongCount wanted found) ≡ Some stop = ap build_stop same ∙ told in
+    (refl, cc)
+
+small : (n : ℕ) → n ≤ 16 → capped n ≡ n
+small n few = ap (λ (t : Bool). cond t n 4294967295) (le-leb n 4294967295 (omega (arith, few)))
+
+differ : (a b : ℕ) → (a == b) ≡ false → b ≢ a
+differ a b isnt = λ is. false≢true (sym isnt ∙ eq-eqb a b (sym is))
+
+-- of a program that was compiled there are only those that come of the count of the arguments
+pub miscounted : (source : List ℕ) (contract : Contract Slot Ty) (program : Artifact) (h : IsCompiled source contract program) (few : HasFewInputs program)
+    (args : List (List ℕ)) (fault : BuildFault) (stop : InputStop) → length args ≤ 16 → built_scripts program (plain_spend args) ≡ Err (Build fault)
+    → build_stop fault ≡ Some stop → IsCountStop contract args stop
+miscounted source contract program h few args fault stop some is told =
+    let correct = h.correct in
+    let f = correct.decides.function in
+    let call = described_function (text_at source) f in
+    let redeem = redeem_script program.code [] in
+    let s = spending_script (length program.abi) 0 args redeem in
+    let one : program.abi ≡ call ∷ [] = abi_is source contract program correct in
+    let size : length f.params ≡ length call.inputs = sym (length-map f.params _) in
+    let inputs : length call.inputs ≤ 16 = (subst (AllByRecursion (λ (c : AbiCall). length c.inputs ≤ 16)) one few).0 in
+    let none : length program.ctor ≡ 0 = ap length correct.describes.ctor ∙ length-map contract.params _ ∙ ap length correct.decides.alone in
+    let past = past_redeem (length program.ctor == 0) (nat_le (length redeem) 520) redeem (WrongCount (capped (length program.ctor)) (capped 0))
+    (RedeemTooLong (capped (length redeem))) (λ r. or_stop (built_unlocking program 0 args r) >>= λ unlocking. Ok (r, unlocking))
+    (eq-eqb (length program.ctor) 0 none) (le-leb (length redeem) 520 h.fits) in
+    let found : slice_get program.abi 0 ≡ Some call = ap (λ (l : List AbiCall). slice_get l 0) one in
+    let called = ap (behind_redeem args redeem s) (sym found) ∙ sym past ∙ is in
+    let counts = by_count (length call.inputs == length args) s redeem (capped (length call.inputs)) (capped (length args)) fault stop called told in
+    let wanted : capped (length call.inputs) ≡ length f.params = small (length call.inputs) inputs ∙ sym size in (
+      f,
+      correct.decides.only,
+      λ e. differ (length call.inputs) (length args) counts.0 (e ∙ size),
+      counts.1 ∙ ap (λ (n : ℕ). stops.WrongCount n (capped (length args))) wanted
+          ∙ ap (λ (n : ℕ). stops.WrongCount (length f.params) n) (small (length args) some),
+    )
+
+mapped : (P Q : InputStop → Type 0) → ((s : InputStop) → P s → Q s) → (stop : Stop) → HasInputCause P stop → HasInputCause Q stop
+mapped P Q further (stopped.Refused status text) (is, (s, cause, told)) = (is, (s, further s cause, told))
+mapped P Q further stopped.Unread h = h
+mapped P Q further stopped.Memory h = tt
+
+pub scripts_stopped : (source : List ℕ) (contract : Contract Slot Ty) (program : Artifact) (h : IsCompiled source contract program) (few : HasFewInputs program)
+    (spend : List ℕ) (args : List (List ℕ)) (stop : Stop) → spend_elements spend ≡ Ok args → length args ≤ 16 → HasScriptsCause program args stop
+    → HasSpendCause contract spend stop
+scripts_stopped source contract program h few spend args stop read some cause =
+    mapped _ _ (λ s c. inr (args, read, miscounted source contract program h few args c.0 s some c.1 c.2)) stop cause
+
 -- ---- the verdict
 
-same_name : (cause : MachineCause) (fault : Cause) (place : LineCol) → IsSameCause cause fault → told_name cause (Some place) ≡ cause_name fault
-same_name cause fault place (inl is) = ap (λ (c : MachineCause). told_name c (Some place)) is
-same_name cause fault place (inr is) = ap (λ (c : MachineCause). told_name c (Some place)) is.0 ∙ ap cause_name (sym is.1)
+same_name : (cause : MachineCause) (fault : Cause) → IsSameCause cause fault → placed_name cause ≡ cause_name fault
+same_name cause fault (inl is) = ap placed_name is
+same_name cause fault (inr is) = ap placed_name is.0 ∙ ap cause_name (sym is.1)
 
-abbrev refused_line : LineCol → List ℕ → ℕ → List ℕ
-refused_line place name at =
-    codes "refused " ++ at_place place ++ codes " " ++ name ++ codes " opcode " ++ decimal at ++ codes "\n"
+-- a refusal at a row of the redeem script is told as a failure at the place of the row
+abbrev ToldAs : List ℕ → List SpanRow → MachineOutcome → Option Span → Type 0
+ToldAs source rows outcome place = (at : ℕ) (cause : MachineCause) (span : Span) (fault : Cause) → outcome ≡ Refused Redeem (0 + at) cause
+    → place_of rows at cause ≡ Some span → placed_name cause ≡ cause_name fault
+    → verdict_line outcome (told_place source place) ≡ failure_line (line_col source span.from) fault (0 + at)
 
 pub verdict_told : (source : List ℕ) (rows : List SpanRow) (run : SourceOutcome) (outcome : MachineOutcome) (place : Option Span) → Agrees rows 0 outcome run
-    → ((at : ℕ) (cause : MachineCause) (span : Span) → outcome ≡ Refused Redeem (0 + at) cause → place_of rows at cause ≡ Some span → place ≡ Some span)
-    → IsVerdict source run outcome (outcome_status outcome) (verdict_line outcome (told_place source place))
-verdict_told source rows Met Accepted place agrees placed = (refl, refl)
-verdict_told source rows (Failed span fault) (Refused Redeem at cause) place agrees placed =
+    → ToldAs source rows outcome place → IsVerdict source run outcome (outcome_status outcome) (verdict_line outcome (told_place source place))
+verdict_told source rows Met Accepted place agrees told = (refl, refl)
+verdict_told source rows (Failed span fault) (Refused Redeem at cause) place agrees told =
     let index : at ≡ 0 + agrees.0.0 = agrees.0.1 in
-    let known : place ≡ Some span = placed agrees.0.0 cause span (ap (λ (n : ℕ). Refused Redeem n cause) index) agrees.0.2 in
-    let p : LineCol = line_col source span.from in (
-      refl,
-      ap (λ (o : Option Span). verdict_line (Refused Redeem at cause) (told_place source o)) known
-          ∙ ap (λ (name : List ℕ). refused_line p name at) (same_name cause fault p agrees.1),
-    )
-verdict_told source rows Met (Refused Unlocking at cause) place agrees placed = absurd agrees
-verdict_told source rows Met (Refused Locking at cause) place agrees placed = absurd agrees
-verdict_told source rows Met (Refused Redeem at cause) place agrees placed = absurd agrees
-verdict_told source rows (Failed span fault) Accepted place agrees placed = absurd agrees
-verdict_told source rows (Failed span fault) (Refused Unlocking at cause) place agrees placed = absurd agrees
-verdict_told source rows (Failed span fault) (Refused Locking at cause) place agrees placed = absurd agrees
+    let line = told agrees.0.0 cause span fault (ap (λ (n : ℕ). Refused Redeem n cause) index) agrees.0.2 (same_name cause fault agrees.1) in
+    (refl, line ∙ ap (λ (n : ℕ). failure_line (line_col source span.from) fault n) (sym index))
+verdict_told source rows Met (Refused Unlocking at cause) place agrees told = absurd agrees
+verdict_told source rows Met (Refused Locking at cause) place agrees told = absurd agrees
+verdict_told source rows Met (Refused Redeem at cause) place agrees told = absurd agrees
+verdict_told source rows (Failed span fault) Accepted place agrees told = absurd agrees
+verdict_told source rows (Failed span fault) (Refused Unlocking at cause) place agrees told = absurd agrees
+verdict_told source rows (Failed span fault) (Refused Locking at cause) place agrees told = absurd agrees
 
 -- ---- the report
 
--- the law of places: a refusal in the redeem script is told at its row
-abbrev pub PlacedLaw : Type 0
-PlacedLaw = (program : Artifact) (spend : SpendParts) (rows : List SpanRow) (at : ℕ) (cause : MachineCause) (span : Span)
+-- the law of failures: a refusal in the redeem script is told as a failure at the place of its row
+abbrev pub FailureLaw : Type 0
+FailureLaw = (program : Artifact) (spend : SpendParts) (rows : List SpanRow) (at : ℕ) (cause : MachineCause) (span : Span) (fault : Cause) (source : List ℕ)
     → program.spans ≡ Some rows → outcome_of program spend ≡ Refused Redeem (length spend.ctor + at) cause → place_of rows at cause ≡ Some span
-    → (told_of program spend).place ≡ Some span
+    → placed_name cause ≡ cause_name fault
+    → verdict_line (told_of program spend).outcome (told_place source (told_of program spend).place)
+    ≡ failure_line (line_col source span.from) fault (length spend.ctor + at)
 
 -- the unlocking script and the outcome of a contract of so many functions
 abbrev unlocking_of : Artifact → List (List ℕ) → ℕ → List ℕ
@@ -166,7 +240,7 @@ abbrev outcome_with : Artifact → List (List ℕ) → ℕ → MachineOutcome
 outcome_with program args functions =
     spend_outcome (filled_context plain_frame (locking_script (redeem_script program.code [])) (unlocking_of program args functions)) []
 
-pub told : (law : PlacedLaw) (source : List ℕ) (contract : Contract Slot Ty) (program : Artifact) (h : IsCorrect source contract program)
+pub told : (law : FailureLaw) (source : List ℕ) (contract : Contract Slot Ty) (program : Artifact) (h : IsCorrect source contract program)
     (spend : List ℕ) (args : List (List ℕ)) (built : Scripts) → spend_elements spend ≡ Ok args → AllByRecursion IsElement args
     → IsFrame plain_frame → IsTable [] → built_scripts program (plain_spend args) ≡ Ok built
     → (t : Told) → t ≡ told_of program (plain_spend args)
@@ -181,7 +255,7 @@ told law source contract program h spend args built read elements frame table is
     let whole : Told = told_of program (plain_spend args) in
     let line = verdict_line whole.outcome (told_place source whole.place) in
     let verdict = verdict_told source h.rows run (outcome_with program args (length program.abi)) whole.place agrees
-    (λ at cause span refused placed. law program (plain_spend args) h.rows at cause span h.describes.placed refused placed) in
+    (λ at cause span fault refused placed name. law program (plain_spend args) h.rows at cause span fault source h.describes.placed refused placed name) in
     subst (λ (u : Told). IsJudged source contract program spend (report_status u) (placed_report source u)) (sym same) (record {
       args = args;
       read = read;

@@ -1,16 +1,17 @@
 -- How a command is answered, part by part.
 use Rattle.std.specs.Prelude.{◌≡◌, ◌≢◌, ℕ, ◌⊎◌, List, [], Option, Some, Err}
 use Rattle.cash_base.specs.Outside.{Files, Rose}
+use Rattle.cash_base.specs.declared.place.Slot.{Slot}
+use Rattle.cash_tree.specs.declared.Ty.{Ty}
+use Rattle.cash_tree.specs.declared.Contract.{Contract}
 use Rattle.bch_vm.specs.declared.outcome.MachineOutcome.{MachineOutcome}
 use Rattle.bch_vm.specs.declared.outcome.MachineOutcome.TheVariants as machine
 use Rattle.artifact_json.specs.Artifact.{Artifact}
 use Rattle.unlocker.specs.declared.BuildFault.{BuildFault}
-use Rattle.spend_debug.specs.declared.spend_lines.LineFault.{LineFault}
 use Rattle.spend_debug.specs.declared.spends.SpendStop.TheVariants.{Build}
-use Rattle.spend_debug.specs.SpendLines.{spend_elements}
 use Rattle.spend_debug.specs.SpendDebug.{built_scripts}
 use Rattle.spend_debug.specs.declared.report.InputStop.{InputStop}
-use Rattle.spend_debug.specs.Telling.{Told, told_place, report_lines, line_stop, build_stop, input_line}
+use Rattle.spend_debug.specs.Telling.{Told, told_place, report_lines, build_stop, input_line}
 use Rattle.cash_compile.specs.declared.refusal.Refusal.{Refusal}
 use Rattle.cash_compile.specs.Compile.{IsRefused}
 use Rattle.cashc.specs.declared.commands.Command.{Command as Named}
@@ -18,7 +19,7 @@ use Rattle.cashc.specs.declared.commands.Command.TheVariants as named
 use Rattle.cashc.specs.declared.commands.Stop.{Stop}
 use Rattle.cashc.specs.declared.commands.Stop.TheVariants.{Refused, Unread, Memory}
 use Rattle.cashc.specs.RefusalText.{refusal_text}
-use Rattle.cashc.specs.TopCall.{Command, compile_file, debug_files, plain_spend, IsLonger, IsMissing, IsSpendStop, IsToldFor, HasReadCauseFor}
+use Rattle.cashc.specs.TopCall.{Command, compile_file, debug_files, plain_spend, IsLonger, IsMissing, IsLineStop, IsSpendStop, IsToldFor, HasReadCauseFor}
 
 -- a command of the code, without where its names lie in memory
 abbrev pub seen : Named → Command
@@ -36,13 +37,15 @@ HasUnreadCause files name before now = Rose before now ⊎ IsMissing files name
 
 -- a file isn't read: it is longer than it may be, of which this status and this text tell, or it can't be read
 abbrev pub HasFileCause : Option Files → List ℕ → ℕ → ℕ → List ℕ → ℕ → ℕ → Stop → Type 0
-HasFileCause files name limit status told before now (Refused s text) = (s ≡ status) × (text.items ≡ told) × IsLonger files name limit
+HasFileCause files name limit status told before now (Refused s text) = (s ≡ status) × (text.items ≡ told)
+    × IsLonger files name limit
 HasFileCause files name limit status told before now Unread = HasUnreadCause files name before now
 HasFileCause files name limit status told before now Memory = Unit {0}
 
 -- a source isn't compiled: it is refused
 abbrev pub HasSourceCause : List ℕ → Stop → Type 0
-HasSourceCause source (Refused status text) = (status ≡ 1) × ((refusal : Refusal) × IsRefused source refusal × (text.items ≡ refusal_text source refusal))
+HasSourceCause source (Refused status text) = (status ≡ 1)
+    × ((refusal : Refusal) × IsRefused source refusal × (text.items ≡ refusal_text source refusal))
 HasSourceCause source Unread = ⊥
 HasSourceCause source Memory = Unit {0}
 
@@ -62,17 +65,17 @@ HasInputCause Is Memory = Unit {0}
 
 -- a file of arguments has none
 abbrev pub HasLinesCause : List ℕ → Stop → Type 0
-HasLinesCause spend stop =
-    HasInputCause (λ s. (fault : LineFault) × (spend_elements spend ≡ Err fault) × (line_stop fault ≡ Some s)) stop
+HasLinesCause spend stop = HasInputCause (λ s. IsLineStop spend s) stop
 
 -- no scripts are built for some arguments
 abbrev pub HasScriptsCause : Artifact → List (List ℕ) → Stop → Type 0
 HasScriptsCause program args stop =
-    HasInputCause (λ s. (fault : BuildFault) × (built_scripts program (plain_spend args) ≡ Err (Build fault)) × (build_stop fault ≡ Some s)) stop
+    HasInputCause (λ s. (fault : BuildFault) × (built_scripts program (plain_spend args) ≡ Err (Build fault))
+    × (build_stop fault ≡ Some s)) stop
 
--- a spend isn't judged: its file has no arguments, or no scripts are built
-abbrev pub HasSpendCause : Artifact → List ℕ → Stop → Type 0
-HasSpendCause program spend stop = HasInputCause (λ s. IsSpendStop program spend s) stop
+-- a spend isn't judged: its file has no arguments, or another number of them
+abbrev pub HasSpendCause : Contract Slot Ty → List ℕ → Stop → Type 0
+HasSpendCause contract spend stop = HasInputCause (λ s. IsSpendStop contract spend s) stop
 
 -- ---- a report
 

@@ -1,5 +1,5 @@
 -- What the program promises: what each command writes, status by status.
-use Rattle.std.specs.Prelude.{◌≡◌, ℕ, ◌<◌, ◌≤◌, ◌⊎◌, List, [], ◌∷◌, ◌++◌, length, codes, Option, Some, None, IfSome, IsSomeAnd, if◌then◌else◌, string_bytes, Ok, Err}
+use Rattle.std.specs.Prelude.{◌≡◌, ◌≢◌, ℕ, ◌<◌, ◌≤◌, ◌⊎◌, List, [], ◌∷◌, ◌++◌, length, codes, Option, Some, None, IfSome, IsSomeAnd, if◌then◌else◌, string_bytes, Ok, Err}
 use Rattle.std.specs.Str.{bytes_eq}
 use Rattle.std.specs.Global.{Global}
 use Rattle.hex.specs.Hex.{encode_lower}
@@ -23,16 +23,14 @@ use Rattle.span_map.specs.Lines.{line_col}
 use Rattle.artifact_json.specs.Artifact.{Artifact}
 use Rattle.unlocker.specs.Scripts.{redeem_script, spending_script}
 use Rattle.spend_debug.specs.SpendLines.{spend_elements}
-use Rattle.unlocker.specs.declared.BuildFault.{BuildFault}
 use Rattle.spend_debug.specs.declared.spend_lines.LineFault.{LineFault}
-use Rattle.spend_debug.specs.declared.spends.SpendStop.TheVariants.{Build}
-use Rattle.spend_debug.specs.SpendDebug.{plain_frame, SpendParts, built_scripts}
+use Rattle.spend_debug.specs.SpendDebug.{plain_frame, SpendParts}
 use Rattle.spend_debug.specs.declared.report.InputStop.{InputStop}
-use Rattle.spend_debug.specs.declared.report.InputStop.TheVariants.{TooLong}
-use Rattle.spend_debug.specs.Telling.{script_line, failure_line, line_stop, build_stop, input_line}
+use Rattle.spend_debug.specs.declared.report.InputStop.TheVariants.{WrongCount, TooLong}
+use Rattle.spend_debug.specs.Telling.{script_line, failure_line, line_stop, input_line}
 use Rattle.cash_compile.specs.declared.refusal.Refusal.{Refusal}
-use Rattle.cash_compile.specs.Compile.{max_source_len, IsAccepted, IsRefused}
-use Rattle.cash_compile.specs.Correct.{Admits, IsCorrect, spending_context}
+use Rattle.cash_compile.specs.Compile.{max_source_len, IsAccepted, IsCompiled, IsRefused}
+use Rattle.cash_compile.specs.Correct.{Admits, spending_context}
 use Rattle.cashc.specs.RefusalText.{source_too_long, refusal_text}
 
 -- ---- the words
@@ -58,11 +56,6 @@ abbrev pub source_name : Command → List ℕ
 source_name (compile_file source) = source
 source_name (debug_files source spend) = source
 
--- the command reads a file of this name
-abbrev pub Reads : Command → List ℕ → Type 0
-Reads (compile_file source) name = name ≡ source
-Reads (debug_files source spend) name = (name ≡ source) ⊎ (name ≡ spend)
-
 -- ---- the files, where the store tells them
 
 abbrev pub IsFile : Option Files → List ℕ → List ℕ → Type 0
@@ -75,15 +68,19 @@ IsLonger files name limit = IfSome files (λ fs. (bytes : List ℕ) × (file_nam
 abbrev pub IsMissing : Option Files → List ℕ → Type 0
 IsMissing files name = IsSomeAnd files (λ fs. file_named name fs ≡ None)
 
+-- the file is a source that stands for some contract
+abbrev pub HasAccepted : Option Files → List ℕ → Type 0
+HasAccepted files name = (source : List ℕ) × (contract : Contract Slot Ty) × IsFile files name source
+    × IsAccepted source contract
+
 -- a file of arguments has at most so many bytes
 abbrev pub max_spend_len : ℕ
 max_spend_len = 4194304
 
--- the file is a source that stands for the contract, and the program is correct for it
+-- the file is a source that stands for the contract, and the program was compiled from it
 pub record IsBuilt (files : Option Files) (name source : List ℕ) (contract : Contract Slot Ty) (program : Artifact) : Type 0 where
   pub found : IsFile files name source
-  pub accepted : IsAccepted source contract
-  pub correct : IsCorrect source contract program
+  pub compiled : IsCompiled source contract program
 
 -- ---- what is shown: statuses 0 and 3
 
@@ -94,7 +91,8 @@ code_line code = codes "code " ++ encode_lower (spellings code) ++ codes "\n"
 -- the code of a program that is correct for the source's contract
 abbrev pub IsLine : Option Files → List ℕ → List ℕ → Type 0
 IsLine files name line =
-    (source : List ℕ) × (contract : Contract Slot Ty) × (program : Artifact) × IsBuilt files name source contract program × (line ≡ code_line program.code)
+    (source : List ℕ) × (contract : Contract Slot Ty) × (program : Artifact) × IsBuilt files name source contract program
+    × (line ≡ code_line program.code)
 
 -- the spend that a file of arguments asks for: nothing for the constructor, the first function, and nothing of a transaction
 abbrev pub plain_spend : List (List ℕ) → SpendParts
@@ -152,22 +150,32 @@ IsShown files words status text = IsShownFor files (command_of words) status tex
 abbrev pub IsRefusal : Option Files → List ℕ → List ℕ → Type 0
 IsRefusal files name text =
     (IsLonger files name max_source_len × (text ≡ source_too_long))
-    ⊎ ((source : List ℕ) × (refusal : Refusal) × IsFile files name source × (length source ≤ max_source_len) × IsRefused source refusal
+    ⊎ ((source : List ℕ) × (refusal : Refusal) × IsFile files name source × (length source ≤ max_source_len)
+    × IsRefused source refusal
     × (text ≡ refusal_text source refusal))
 
--- the first fault of a file of arguments, or else of the scripts that they ask for
-abbrev pub IsSpendStop : Artifact → List ℕ → InputStop → Type 0
-IsSpendStop program spend stop =
-    ((fault : LineFault) × (spend_elements spend ≡ Err fault) × (line_stop fault ≡ Some stop))
-    ⊎ ((args : List (List ℕ)) × (fault : BuildFault) × (spend_elements spend ≡ Ok args) × (built_scripts program (plain_spend args) ≡ Err (Build fault))
-    × (build_stop fault ≡ Some stop))
+-- the first fault of a file of arguments
+abbrev pub IsLineStop : List ℕ → InputStop → Type 0
+IsLineStop spend stop = (fault : LineFault) × (spend_elements spend ≡ Err fault) × (line_stop fault ≡ Some stop)
+
+-- there are other than as many arguments as the contract's only function has parameters
+abbrev pub IsCountStop : Contract Slot Ty → List (List ℕ) → InputStop → Type 0
+IsCountStop contract args stop =
+    (function : Function Slot Ty) × (contract.functions ≡ function ∷ []) × (length args ≢ length function.params)
+    × (stop ≡ WrongCount (length function.params) (length args))
+
+-- the first fault of a file of arguments, or else the fault of their count
+abbrev pub IsSpendStop : Contract Slot Ty → List ℕ → InputStop → Type 0
+IsSpendStop contract spend stop =
+    IsLineStop spend stop ⊎ ((args : List (List ℕ)) × (spend_elements spend ≡ Ok args) × IsCountStop contract args stop)
 
 -- the source is accepted, and the file of arguments is longer than it may be, or it isn't and is refused
 abbrev pub IsInputRefusal : Option Files → List ℕ → List ℕ → List ℕ → Type 0
 IsInputRefusal files source_name spend_name text =
-    (source : List ℕ) × (contract : Contract Slot Ty) × (program : Artifact) × IsBuilt files source_name source contract program
+    (source : List ℕ) × (contract : Contract Slot Ty) × IsFile files source_name source × IsAccepted source contract
     × ((IsLonger files spend_name max_spend_len × (text ≡ input_line TooLong))
-    ⊎ ((spend : List ℕ) × (stop : InputStop) × IsFile files spend_name spend × (length spend ≤ max_spend_len) × IsSpendStop program spend stop
+    ⊎ ((spend : List ℕ) × (stop : InputStop) × IsFile files spend_name spend × (length spend ≤ max_spend_len)
+    × IsSpendStop contract spend stop
     × (text ≡ input_line stop)))
 
 abbrev pub IsInputRefusalFor : Option Files → Command → List ℕ → Type 0
@@ -189,10 +197,16 @@ IsTold files words status text = IsToldFor files (command_of words) status text
 abbrev pub read_failed : List ℕ
 read_failed = codes "read failed\n"
 
--- the cause of status 5: the store had a fault, or tells its files and lacks one that the command reads
+-- The store tells its files, and lacks one that the command reads. A file of arguments is read only beside a source that is
+-- accepted.
+abbrev pub LacksFile : Option Files → Command → Type 0
+LacksFile files (compile_file source) = IsMissing files source
+LacksFile files (debug_files source spend) = IsMissing files source ⊎ (IsMissing files spend × HasAccepted files source)
+
+-- the cause of status 5: the store had a fault, or lacks a file
 abbrev pub HasReadCauseFor : Option Files → Option Command → ℕ → ℕ → Type 0
 HasReadCauseFor files None before now = ⊥
-HasReadCauseFor files (Some command) before now = Rose before now ⊎ ((name : List ℕ) × Reads command name × IsMissing files name)
+HasReadCauseFor files (Some command) before now = Rose before now ⊎ LacksFile files command
 
 abbrev pub HasReadCause : Option Files → List (String Global) → ℕ → ℕ → Type 0
 HasReadCause files words before now = HasReadCauseFor files (command_of words) before now

@@ -11,7 +11,7 @@ ghost use Rattle.cashc.specs.TopCall.{IsFile, IsShownFor, IsLine, IsReport, IsJu
 ghost use Rattle.cashc.specs.Answering.{seen, IsSaid, HasFileCause, HasSourceCause, HasInputCause, HasLinesCause, HasScriptsCause, HasSpendCause, HasCause, report_status, placed_report};
 ghost use Rattle.cashc.specs.declared.commands.Stop.TheVariants.{Memory as WithoutMemory};
 
-use crate::refusal_text::refusal_text;
+use crate::refusal_text::{SOURCE_TOO_LONG, refusal_text};
 use artifact_json::Program;
 use bch_vm::{Machine, MachineOutcome};
 use cash_base::{Element, Memory, Store, StoreStop};
@@ -19,7 +19,7 @@ use cash_compile::compile::{Compiled, compile};
 use cash_compile::{MAX_SOURCE_LEN, Refusal};
 use script_codec::encode;
 use spend_debug::spend_lines::read_elements_are_few;
-use spend_debug::spends::told_at_its_row;
+use spend_debug::spends::told_as_a_failure;
 use spend_debug::{
     InputStop, Report, Spend, SpendStop, build_stop, debug, input_text, line_stop, plain_frame,
     report_text, spend_lines, told_place,
@@ -29,8 +29,6 @@ use tx_context::Verdicts;
 
 /// The most bytes of a file of arguments.
 const MAX_SPEND_LEN: usize = 4_194_304;
-
-const SOURCE_TOO_LONG: &str = "refused SourceTooLong\n";
 
 const INPUT_TOO_LONG: &str = "input TooLong\n";
 
@@ -79,10 +77,12 @@ impl From<AllocError> for Stop {
 
 /// Does a command.
 pub fn answer<S: Store>(alloc: Global, command: &Command<'_>, store: &mut S) -> Result<Output, Stop>
-    ensures shown { IfOk result (λ output. IsShownFor (S.files store.old) (Some (seen command.now)) output.status output.text.items) }
+    ensures shown { IfOk result (λ output.
+        IsShownFor (S.files store.old) (Some (seen command.now)) output.status output.text.items) }
     ensures some { IfOk result (λ output. output.text.items ≢ []) }
     ensures status { IfOk result (λ output. (output.status ≡ 0) ⊎ (output.status ≡ 3)) }
-    ensures stopped { IfErr result (λ stop. HasCause (S.files store.old) (seen command.now) (S.faults store.old) (S.faults store.new) stop) }
+    ensures stopped { IfErr result (λ stop.
+        HasCause (S.files store.old) (seen command.now) (S.faults store.old) (S.faults store.new) stop) }
     ensures said { IfErr result (λ stop. IsSaid stop) }
     ensures files { S.files store.new ≡ S.files store.old }
 {
@@ -103,7 +103,8 @@ fn read_file<S: Store>(
 ) -> Result<Vec<u8>, Stop>
     requires { too_long.now ≢ [] }
     ensures read { IfOk result (λ bytes. IsFile (S.files store.old) name.now bytes.items × (length bytes.items ≤ limit)) }
-    ensures stopped { IfErr result (λ stop. HasFileCause (S.files store.old) name.now limit status too_long.now (S.faults store.old) (S.faults store.new) stop) }
+    ensures stopped { IfErr result (λ stop.
+        HasFileCause (S.files store.old) name.now limit status too_long.now (S.faults store.old) (S.faults store.new) stop) }
     ensures said { IfErr result (λ stop. IsSaid stop) }
     ensures later { S.faults store.old ≤ S.faults store.new }
     ensures files { S.files store.new ≡ S.files store.old }
@@ -123,7 +124,7 @@ fn read_file<S: Store>(
 /// The contract and the program of a source.
 fn compiled(alloc: Global, source: &[u8]) -> Result<Compiled, Stop>
     requires { length source.now ≤ max_source_len }
-    ensures built { IfOk result (λ compiled. IsCompiled source.now compiled) }
+    ensures built { IfOk result (λ compiled. IsCompiled source.now compiled.contract compiled.program) }
     ensures few { IfOk result (λ compiled. HasFewInputs compiled.program) }
     ensures stopped { IfErr result (λ stop. HasSourceCause source.now stop) }
     ensures said { IfErr result (λ stop. IsSaid stop) }
@@ -142,13 +143,14 @@ fn compiled(alloc: Global, source: &[u8]) -> Result<Compiled, Stop>
 fn compile_file<S: Store>(alloc: Global, name: &str, store: &mut S) -> Result<Output, Stop>
     ensures shown { IfOk result (λ output. (output.status ≡ 0) × IsLine (S.files store.old) name.now output.text.items) }
     ensures some { IfOk result (λ output. output.text.items ≢ []) }
-    ensures stopped { IfErr result (λ stop. HasCause (S.files store.old) (TopCall.compile_file name.now) (S.faults store.old) (S.faults store.new) stop) }
+    ensures stopped { IfErr result (λ stop.
+        HasCause (S.files store.old) (TopCall.compile_file name.now) (S.faults store.old) (S.faults store.new) stop) }
     ensures said { IfErr result (λ stop. IsSaid stop) }
     ensures files { S.files store.new ≡ S.files store.old }
 {
     let source = read_file(alloc, name, MAX_SOURCE_LEN, 1, SOURCE_TOO_LONG, store)?;
-    let compiled = compiled(alloc, source.as_slice())?;
-    let code = encode(alloc, compiled.program.code.as_slice())?;
+    let built = compiled(alloc, source.as_slice())?;
+    let code = encode(alloc, built.program.code.as_slice())?;
     let text = framed(alloc, code.as_slice())?;
     Ok(Output { status: 0, text })
 }
@@ -171,9 +173,11 @@ fn debug_files<S: Store>(
     spend_name: &str,
     store: &mut S,
 ) -> Result<Output, Stop>
-    ensures shown { IfOk result (λ output. IsReport (S.files store.old) name.now spend_name.now output.status output.text.items) }
+    ensures shown { IfOk result (λ output.
+        IsReport (S.files store.old) name.now spend_name.now output.status output.text.items) }
     ensures some { IfOk result (λ output. output.text.items ≢ []) }
-    ensures stopped { IfErr result (λ stop. HasCause (S.files store.old) (TopCall.debug_files name.now spend_name.now) (S.faults store.old) (S.faults store.new) stop) }
+    ensures stopped { IfErr result (λ stop.
+        HasCause (S.files store.old) (TopCall.debug_files name.now spend_name.now) (S.faults store.old) (S.faults store.new) stop) }
     ensures said { IfErr result (λ stop. IsSaid stop) }
     ensures files { S.files store.new ≡ S.files store.old }
 {
@@ -186,16 +190,17 @@ fn debug_files<S: Store>(
 
 /// What a spend of a source's program with the arguments of a file comes to.
 fn judged(alloc: Global, source: &[u8], compiled: &Compiled, spend: &[u8]) -> Result<Output, Stop>
-    requires built { IsCompiled source.now compiled.now }
+    requires built { IsCompiled source.now compiled.now.contract compiled.now.program }
     requires few { HasFewInputs compiled.now.program }
     requires short { length source.now ≤ max_source_len }
-    ensures shown { IfOk result (λ output. IsJudged source.now compiled.now.contract compiled.now.program spend.now output.status output.text.items) }
+    ensures shown { IfOk result (λ output.
+        IsJudged source.now compiled.now.contract compiled.now.program spend.now output.status output.text.items) }
     ensures some { IfOk result (λ output. output.text.items ≢ []) }
-    ensures stopped { IfErr result (λ stop. HasSpendCause compiled.now.program spend.now stop) }
+    ensures stopped { IfErr result (λ stop. HasSpendCause compiled.now.contract spend.now stop) }
     ensures said { IfErr result (λ stop. IsSaid stop) }
 {
     read_elements_are_few();
-    told_at_its_row();
+    told_as_a_failure();
     let args = arguments(alloc, spend)?;
     let report = report_of(alloc, &compiled.program, args)?;
     let output = report_answer(alloc, source, &report)?;
@@ -231,7 +236,8 @@ fn refused_input(alloc: Global, stop: Option<InputStop>) -> Stop
 /// The report of a spend with these arguments, with nothing for the constructor and nothing of a transaction.
 fn report_of(alloc: Global, program: &Program, args: Vec<Element>) -> Result<Report, Stop>
     requires { HasFewInputs program.now }
-    ensures report { IfOk result (λ report. report ≡ told_of program.now (TopCall.plain_spend (map (λ e. e.items) args.items))) }
+    ensures report { IfOk result (λ report. report
+        ≡ told_of program.now (TopCall.plain_spend (map (λ e. e.items) args.items))) }
     ensures built { IfOk result (λ report.
         built_scripts program.now (TopCall.plain_spend (map (λ e. e.items) args.items)) ≡ Ok (report.redeem, report.unlocking)) }
     ensures stopped { IfErr result (λ stop. HasScriptsCause program.now (map (λ e. e.items) args.items) stop) }
@@ -265,7 +271,8 @@ fn plain_spend(alloc: Global, args: Vec<Element>) -> Result<Spend, Memory>
 /// The lines of a report, and the status that goes with it.
 fn report_answer(alloc: Global, source: &[u8], report: &Report) -> Result<Output, Stop>
     requires { length source.now ≤ max_source_len }
-    ensures report { IfOk result (λ output. (output.status ≡ report_status report.now) × (output.text.items ≡ placed_report source.now report.now)) }
+    ensures report { IfOk result (λ output. (output.status ≡ report_status report.now)
+        × (output.text.items ≡ placed_report source.now report.now)) }
     ensures some { IfOk result (λ output. output.text.items ≢ []) }
     ensures stopped { IfErr result (λ stop. stop ≡ WithoutMemory) }
 {

@@ -1,7 +1,7 @@
 //! How a refusal is printed.
 
 ghost use Rattle.std.specs.Prelude.{◌≡◌, ◌≢◌, ◌≤◌, length, string_bytes, [], IfOk};
-ghost use Rattle.cash_compile.specs.Compile.{IsText, IsRefused, max_source_len};
+ghost use Rattle.cash_compile.specs.Compile.{IsText, IsRefused};
 ghost use Rattle.cashc.specs.RefusalText;
 ghost use Rattle.cashc.specs.RefusalText.{named_at, at_place, lex_text, parse_text, name_text, type_text, mismatch, typing_text};
 
@@ -14,6 +14,9 @@ use cash_tree::Ty;
 use span_map::line_col_of;
 use std::alloc::{AllocError, Global};
 use type_check::TypeFault;
+
+/// The line that refuses a source of more than 65,536 bytes.
+pub const SOURCE_TOO_LONG: &str = "refused SourceTooLong\n";
 
 /// Where the token with this number begins, or else the end of the source.
 fn token_start(alloc: Global, source: &[u8], number: u32) -> Result<u32, Memory>
@@ -50,7 +53,7 @@ fn named_at(alloc: Global, line: u32, column: u32, name: &str) -> Result<String,
 
 /// The line that refuses a source at a place.
 fn at_place(alloc: Global, source: &[u8], at: u32, name: &str) -> Result<String, AllocError>
-    requires { length source.now ≤ max_source_len }
+    requires { length source.now ≤ 2147483647 }
     ensures { IfOk result (λ text. string_bytes text ≡ at_place source.now at name.now) }
 {
     let (line, column) = line_col_of(source, at);
@@ -58,7 +61,7 @@ fn at_place(alloc: Global, source: &[u8], at: u32, name: &str) -> Result<String,
 }
 
 fn lex_text(alloc: Global, source: &[u8], fault: LexFault) -> Result<String, Memory>
-    requires { length source.now ≤ max_source_len }
+    requires { length source.now ≤ 2147483647 }
     ensures { IfOk result (λ text. string_bytes text ≡ lex_text source.now fault) }
 {
     let (span, name) = match fault {
@@ -86,7 +89,7 @@ fn parse_text(alloc: Global, source: &[u8], fault: ParseFault) -> Result<String,
 }
 
 fn name_text(alloc: Global, source: &[u8], fault: NameFault) -> Result<String, Memory>
-    requires { length source.now ≤ max_source_len }
+    requires { length source.now ≤ 2147483647 }
     ensures { IfOk result (λ text. string_bytes text ≡ name_text source.now fault) }
 {
     let (span, name) = match fault {
@@ -135,7 +138,7 @@ fn mismatch(alloc: Global, wanted: &Ty, found: &Ty) -> Result<String, AllocError
 }
 
 fn typing_text(alloc: Global, source: &[u8], fault: TypeFault) -> Result<String, Memory>
-    requires { length source.now ≤ max_source_len }
+    requires { length source.now ≤ 2147483647 }
     ensures { IfOk result (λ text. string_bytes text ≡ typing_text source.now fault) }
 {
     let (span, name) = match fault {
@@ -169,13 +172,13 @@ fn typing_text(alloc: Global, source: &[u8], fault: TypeFault) -> Result<String,
 ///
 /// `Memory`, where memory ran out.
 pub fn refusal_text(alloc: Global, source: &[u8], refusal: Refusal) -> Result<String, Memory>
-    requires short { length source.now ≤ max_source_len }
+    requires short { length source.now ≤ 2147483647 }
     requires refused { IsRefused source.now refusal }
     ensures text { IfOk result (λ text. string_bytes text ≡ RefusalText.refusal_text source.now refusal) }
     ensures some { IfOk result (λ text. string_bytes text ≢ []) }
 {
     match refusal {
-        Refusal::SourceTooLong { .. } => Ok(String::from_str(alloc, "refused SourceTooLong\n")?),
+        Refusal::SourceTooLong { .. } => Ok(String::from_str(alloc, SOURCE_TOO_LONG)?),
         Refusal::NotUtf8 { at } => Ok(format!(in alloc; "refused NotUtf8 {at}\n")?),
         Refusal::Lex(fault) => lex_text(alloc, source, fault),
         Refusal::Parse(fault) => parse_text(alloc, source, fault),

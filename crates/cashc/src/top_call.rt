@@ -26,11 +26,12 @@ const OUT_OF_MEMORY: &str = "out of memory\n";
 /// statuses are
 ///
 /// - 0: the code was written to `out`, or the scripts of an accepted spend.
-/// - 1: the source is refused: the line on `err` is that of its one refusal.
+/// - 1: the source is refused: the line on `err` is that of its refusal.
 /// - 2: the words are no command that is built so far.
 /// - 3: the machine refuses the spend; the lines were written to `out`.
-/// - 4: the file of arguments is refused, or no scripts can be built of it: a line on `err` begins with `input`.
-/// - 5: the store had a fault, or has no such file.
+/// - 4: the file of arguments is refused, or has other than as many arguments as the contract's function has parameters: a
+///   line on `err` begins with `input`.
+/// - 5: the store had a fault, or has no such file. A file of arguments is read only where the source is accepted.
 /// - 6: a sink had a fault.
 /// - 7: memory ran out.
 ///
@@ -98,7 +99,8 @@ fn write<K: Sink>(sink: &mut K, text: &[u8], status: u8) -> u8
     requires some { text.now ≢ [] }
     requires other { status ≢ 6 }
     ensures done { result ≢ 6 → (result ≡ status) × Grew (K.written sink.old) (K.written sink.new) text.now }
-    ensures stopped { result ≡ 6 → Stopped (K.faults sink.old) (K.faults sink.new) (K.written sink.old) (K.written sink.new) text.now }
+    ensures stopped { result ≡ 6
+        → Stopped (K.faults sink.old) (K.faults sink.new) (K.written sink.old) (K.written sink.new) text.now }
     ensures only { (result ≡ status) ⊎ (result ≡ 6) }
 {
     match sink.write_all(text) {

@@ -1,6 +1,8 @@
 use Rattle.cash_compile.proofs.Correct.{program_correct, few_inputs}
 use Rattle.cash_compile.specs.Rows.{places}
-use Rattle.std.proofs.Common.{map}
+use Rattle.std.proofs.Common.{◌≤◌, List, length, map, subst, sym}
+use Rattle.script_codec.specs.declared.instr.Instr.{Instr}
+use Rattle.script_codec.specs.Spelling.{spellings}
 use Rattle.cash_compile.proofs.compile.correct_program.Goals as goal
 
 pub returns : goal.returns
@@ -8,8 +10,11 @@ returns c =
     let made = c.in_ok-program.ensures in
     let program = c.in_ok-program.program in
     let rows = c.args.rows.items in
+    let few = c.requires.few in
     record {
       correct = program_correct c.spend_is_decided.ensures c.tokens_cut_the_source.ensures c.reading_in_turn.ensures.end c.reading_behind_encoded.ensures c.meaning_of_spelled.ensures c.judged_once.ensures
-          c.args.source.now c.args.contract.now rows program c.requires.accepted c.requires.agrees c.requires.few made.code made.describes;
+          c.args.source.now c.args.contract.now rows program c.requires.accepted c.requires.agrees few made.code made.describes;
+      fits = subst (λ (code : List Instr). length (spellings code) ≤ 520) (sym made.code) few.size;
+      updated = made.updated;
       few = few_inputs c.args.source.now c.args.contract.now rows program (map places rows) c.requires.agrees made.describes;
     }

@@ -1,8 +1,8 @@
-use Rattle.std.proofs.Common.{◌≡◌, ◌∙◌, ℕ, ◌≤◌, ◌+◌, ◌*◌, ◌++◌, length, true, subst, sym, ap, arith}
+use Rattle.std.proofs.Common.{◌≡◌, ◌∙◌, ◌≤◌, ◌+◌, ◌*◌, length, true, subst, ap, arith}
 use Rattle.std.proofs.lemmas.Grind.{common_steps}
 use Rattle.cash_base.specs.declared.place.Span.{Span}
 use Rattle.source_meaning.specs.Runnable.{nodes}
-use Rattle.cash_compile.specs.Rows.{doings, are_rows_of, AreFew}
+use Rattle.cash_compile.specs.Rows.{doings, are_rows_of, code_size}
 use Rattle.cash_compile.specs.Emission.{told_of}
 use Rattle.cash_compile.proofs.Decided.{are_few, rows_inside}
 use Rattle.cash_compile.proofs.emission.emit.Goals as goal
@@ -21,7 +21,8 @@ returns-clause-few c =
     let params : middle.params ≤ 16 = grind (arith, common_steps) in
     let small : nodes c.in-Require.value ≤ 64 = grind (arith, common_steps) in
     let rows : length middle.rows.items ≤ 2 * nodes c.in-Require.value = omega (arith, value.count, ap length c.new.ensures.items) in
-    are_few statement all belong (omega (arith, dropped.count, params, small, rows))
+    let bytes : code_size middle.rows.items ≤ 7 * nodes c.in-Require.value + 6 = omega (arith, value.size, ap code_size c.new.ensures.items) in
+    are_few statement all belong (omega (arith, dropped.count, params, small, rows)) (omega (arith, dropped.size, params, small, bytes))
 
 pub returns-clause-inside : goal.returns-clause-inside
 returns-clause-inside c = λ len inside.
