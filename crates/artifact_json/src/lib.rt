@@ -49,8 +49,8 @@ impl Model for AbiFunction {
 /// A compiled contract: its code, where they are known the places in the source of each instruction, the constructor's
 /// parameters, the functions in the order of the source, the contract's name, its source, and when it was compiled.
 ///
-/// Each opcode of the code is above 60 (hexadecimal): a byte up to that spells a push. Contracts see lists for vectors,
-/// and bytes for texts.
+/// Each opcode of the code is above 60 (hexadecimal): the bytes up to that push, but for 50, which is reserved. Contracts
+/// see lists for vectors, and bytes for texts.
 #[derive(Drop)]
 pub struct Program {
     pub code: Vec<Instr>,

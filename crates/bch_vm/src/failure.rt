@@ -2,7 +2,8 @@
 
 use cash_base::MachineCause;
 
-/// Where a run of instructions fails: the index of the instruction, counted from 0, and why.
+/// Where a run of instructions fails: the index of the instruction, counted from 0, or their number where a condition is
+/// open at the end, and why.
 #[derive(Clone, Copy, Debug, PartialEq, Eq)]
 pub struct Failure {
     pub at: u32,

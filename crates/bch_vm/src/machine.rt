@@ -43,7 +43,8 @@ impl Model for Machine {
 impl Machine {
     /// A machine at the beginning of a spend. Its stacks are reserved, so that nothing behind this takes memory.
     pub fn new(alloc: Global) -> Result<Machine, Memory>
-        ensures { IfOk result IsAtBeginning }
+        ensures begins { IfOk result IsAtBeginning }
+        ensures stack { IfOk result (λ machine. stack_of machine ≡ []) }
     {
         Ok(Machine {
             phase: Phase::Begin,
@@ -252,7 +253,8 @@ impl Machine {
 
     /// Decides behind the redeem script.
     fn close_redeem(&mut self)
-        ensures course { (unlocking locking : List ℕ) → scripts_from unlocking locking self.new ≡ behind_redeem (state_at self.old.position) }
+        ensures course { (unlocking locking : List ℕ) → scripts_from unlocking locking self.new
+            ≡ behind_redeem (state_at self.old.position) }
         ensures later { rank self.new.phase < 1 }
     {
         if let Err(outcome) = self.run.check_top(Which::Redeem, MachineCause::EndFalse) {

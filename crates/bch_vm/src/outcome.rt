@@ -18,7 +18,8 @@ pub enum Which {
 pub enum MachineOutcome {
     /// The input may be spent.
     Accepted,
-    /// It may not: the script in which the spend fails, the index of the instruction, counted from 0, and why.
+    /// It may not: the script in which the spend fails, the index of the instruction, counted from 0, and why. Where a
+    /// condition is open at the end of the script the index is the number of its instructions.
     Refused {
         script: Which,
         at: u32,

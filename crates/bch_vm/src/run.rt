@@ -114,7 +114,8 @@ impl Run {
     /// Takes the top of the stack, and begins a script on the rest.
     pub fn take_script(&mut self) -> Option<Element>
         ensures some { IfSome result (λ e. (state_at self.old).board.stack ≡ e.items ∷ (state_at self.new).board.stack) }
-        ensures begun { IfSome result (λ e. self.new ≡ position (counted (state (state_at self.new).board.stack beginning) 0) 0) }
+        ensures begun { IfSome result (λ e. self.new
+            ≡ position (counted (state (state_at self.new).board.stack beginning) 0) 0) }
         ensures none { IfNone result ((state_at self.old).board.stack ≡ []) }
     {
         let top = self.room.pop()?;
@@ -124,7 +125,8 @@ impl Run {
 
     /// That the top of the stack is true at the end of a script, or the refusal.
     pub fn check_top(&self, script: Which, cause: MachineCause) -> Result<(), MachineOutcome>
-        ensures ok { OnOk result (top_check script cause (state_at self.now).progress.last (state_at self.now).board.stack ≡ Gives tt) }
+        ensures ok { OnOk result
+            (top_check script cause (state_at self.now).progress.last (state_at self.now).board.stack ≡ Gives tt) }
         ensures err { IfErr result (λ outcome.
             top_check script cause (state_at self.now).progress.last (state_at self.now).board.stack ≡ Stops outcome) }
     {

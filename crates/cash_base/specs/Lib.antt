@@ -4,4 +4,5 @@ pub mod Kept
 pub mod Number
 pub mod Outside
 pub mod Real
+pub mod Source
 pub mod Width

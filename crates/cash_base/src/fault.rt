@@ -29,9 +29,9 @@ pub enum Cause {
     NumberRange,
     /// A divisor is zero.
     DivideByZero,
-    /// A split at a place before the first byte, or behind the last.
+    /// A split at a negative place, or at more bytes than there are.
     SplitRange,
-    /// A number is padded to a negative size, to over 520 bytes, or to fewer bytes than it has.
+    /// A size to pad to is negative, above 520 bytes, or less than the bytes of the shortest form of what is padded.
     PadSize,
     /// An element would have over 520 bytes.
     Oversize,
@@ -43,9 +43,11 @@ pub enum Cause {
     NullFail,
     /// A signature or a key isn't well formed.
     Malformed,
-    /// The transaction's lock time isn't late enough, or doesn't count.
+    /// The transaction's lock time is before the wanted one or of the other kind, or doesn't count; or what is wanted is
+    /// negative or has more than 5 bytes.
     LockTime,
-    /// The spent output isn't old enough, or its age doesn't count.
+    /// The sequence is below the wanted age or of the other kind, or doesn't count; or what is wanted is negative or has
+    /// more than 5 bytes.
     Age,
 }
 
@@ -60,7 +62,7 @@ pub enum MachineCause {
     BadOpcode,
     /// An opcode that the specification switched off.
     Disabled,
-    /// A condition that is open at the end of a script, or an opcode of conditions where none is open.
+    /// A condition is open at the end of a script, IF or NOTIF has no element, or ELSE or ENDIF no condition.
     Unbalanced,
     /// More than one element is left at the end of the spend.
     NotClean,

@@ -18,7 +18,7 @@ pub use look::{Look0, LookAt};
 pub use memory::{MemorySink, MemoryStore};
 pub use number::{read_number, truth, write_number};
 pub use outside::{Sink, SinkFailed, Store, StoreStop};
-pub use place::{Slot, Span};
+pub use place::{Slot, Span, text_at};
 pub use real::{FileStore, StreamSink};
 pub use sure::{SureSink, SureStore};
 pub use width::{of_width, shortest};

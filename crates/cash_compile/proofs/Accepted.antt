@@ -1,6 +1,6 @@
 -- The contracts of the form are those that the emitter takes.
-use Rattle.std.proofs.Common.{◌≡◌, ℕ, ◌+◌, ◌*◌, ◌<◌, ◌≤◌, ◌^◌, true, List, [], ◌∷◌, length, sym, ap, ◌∙◌, subst, arith, rules, inl, inr, Some}
-use Rattle.std.specs.Prelude.{slice_get, All}
+use Rattle.std.proofs.Common.{◌≡◌, ℕ, ◌+◌, ◌*◌, ◌<◌, ◌≤◌, ◌^◌, true, List, [], ◌∷◌, length, refl, sym, ap, ◌∙◌, subst, arith, rules, inl, inr, Some}
+use Rattle.std.specs.Prelude.{slice_get, All, IsTrue}
 use Rattle.std.proofs.lemmas.List.Elements.{All-cons}
 use Rattle.std.proofs.lemmas.Bool.{and_from, lt-ltb}
 use Rattle.cash_base.specs.declared.place.Slot.{Slot}
@@ -15,7 +15,7 @@ use Rattle.cash_tree.specs.declared.ExprKind.TheFolds.{the_lemmas}
 use Rattle.cash_tree.specs.declared.Function.{Function}
 use Rattle.cash_tree.specs.declared.StmtKind.TheVariants.{Require}
 use Rattle.cash_tree.specs.declared.BinaryOp.{BinaryOp}
-use Rattle.source_meaning.specs.Runnable.{HaveSlotsFrom, IsRunnable, IsRunnableKind, IsRunnableStatement, CanRun, is_runnable, kind_test, nodes as node_count}
+use Rattle.source_meaning.specs.Runnable.{HaveSlotsFrom, IsRunnable, IsRunnableKind, IsRunnableStatement, CanRun, are_ints, is_runnable, kind_test, nodes as node_count}
 use Rattle.cash_compile.specs.Form.{is_equality}
 use Rattle.cash_compile.specs.Emission.{IsEmittable}
 use Rattle.cash_compile.proofs.FormShape.{IsOperand, IsComparison, IsEquality, form_is}
@@ -103,8 +103,10 @@ equality_can_run contract h count is =
       function = h.f;
       found = ap (λ fs. slice_get fs 0) h.one_function;
       ctor_count = ap length h.no_params;
+      ctor_ints = subst (λ ps. IsTrue (are_ints ps)) (sym h.no_params) refl;
       ctor_slots = subst (HaveSlotsFrom 0) (sym h.no_params) tt;
       arg_count = is;
+      arg_ints = h.body.ints;
       arg_slots = h.body.in_slots;
       body = one_statement (IsRunnableStatement (0 + count)) h.f.body h.body.statement h.body.one_statement (requires_runnable (0 + count) h.body.statement check.0 check.1 value);
     }

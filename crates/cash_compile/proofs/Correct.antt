@@ -44,13 +44,13 @@ use Rattle.cash_tree.specs.declared.Param.{Param}
 use Rattle.cash_tree.specs.declared.Token.{Token}
 use Rattle.cash_lexer.specs.Tokens.{lexed}
 use Rattle.cash_lexer.specs.Laws.{IsCut}
-use Rattle.cash_parser.specs.Lexemes.{text_at}
+use Rattle.cash_base.specs.Source.{text_at}
 use Rattle.artifact_json.specs.Artifact.{Artifact, AbiParam, AbiCall, HasFewInputs}
 use Rattle.type_check.specs.Answer.{JudgedOnce}
 use Rattle.cash_names.specs.Outline.{NamedTree}
 use Rattle.cash_compile.specs.Compile.{IsAccepted}
 use Rattle.cash_compile.specs.Describes.{described_param, described_function, lossy_at, DescribesBy, Describes}
-use Rattle.cash_compile.proofs.Sizes.{push_size}
+use Rattle.script_codec.proofs.Sizes.{push_size}
 use Rattle.cash_compile.proofs.Words.{ParamsHave, FunctionHas, NamesHave, IsTextAt, names_are_texts}
 use Rattle.cash_compile.specs.Decides.{AgreesAlone, FailsOrEndsFalse, EndsAs, DecidesByRun, AgreesByRun}
 use Rattle.unlocker.specs.Scripts.{spending_script, redeem_script}

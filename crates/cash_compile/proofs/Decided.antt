@@ -29,7 +29,7 @@ use Rattle.cash_compile.specs.Rows.{RowFailure, run_rows, row, doings, instructi
 use Rattle.cash_compile.specs.Decides.{EndsAs, AgreesByRun}
 use Rattle.source_meaning.specs.Runnable.{HaveSlotsFrom, env_of}
 use Rattle.source_meaning.proofs.Slots.{with_values-env_of}
-use Rattle.cash_compile.specs.Emission.{HoldsArgs, IsEmittable, Leaves, Follows, told_of, IsKindInside, IsStatementInside, IsContractInside}
+use Rattle.cash_compile.specs.Emission.{HoldsArgs, IsEmittable, Leaves, Follows, told_of, ArePlaced, IsKindInside, IsStatementInside, IsContractInside}
 use Rattle.cash_compile.proofs.Emits.{opcode, next}
 use Rattle.cash_compile.proofs.Rows.{rows_in_turn, Located, located, last_within}
 
@@ -87,32 +87,60 @@ all_plain statement (r ∷ rows) all =
 pub are_few : (statement : Span) (rows : List Spanned) → are_rows_of statement rows ≡ true → length rows ≤ 150 → code_size rows ≤ 520 → AreFew rows
 are_few statement rows belong count size = record { count = count; size = size; plain = all_plain statement rows belong }
 
--- ---- all places lie in the source
+-- ---- where the rows have their places
 
-placed : (len : ℕ) (statement : Span) (rows : List Spanned) → are_rows_of statement rows ≡ true → IsInside len statement → AllByRecursion (IsInside len) (doings rows)
-    → AllByRecursion (IsRowInside len) (map places rows)
-placed len statement [] belong at all = tt
-placed len statement (r ∷ rows) belong at all =
+nips_done : (statement : Span) (n : ℕ) → map (λ r. r.doing) (map places (replicate n (nip statement))) ≡ replicate n statement
+nips_done statement zero = refl
+nips_done statement (suc n) = ap (λ (l : List Span). statement ∷ l) (nips_done statement n)
+
+all_done : (statement : Span) (rows : List Spanned) (n : ℕ) → map (λ r. r.doing) (map places (rows ++ replicate n (nip statement))) ≡ doings rows ++ replicate n statement
+all_done statement [] n = nips_done statement n
+all_done statement (r ∷ rows) n = ap (λ (l : List Span). r.doing ∷ l) (all_done statement rows n)
+
+all_checked : (statement : Span) (rows : List Spanned) → are_rows_of statement rows ≡ true → map (λ r. r.checking) (map places rows) ≡ replicate (length (map places rows)) statement
+all_checked statement [] belong = refl
+all_checked statement (r ∷ rows) belong =
     let parts = and_parts _ _ belong in
-    ((all.0, subst (IsInside len) (sym (same_span r.checking statement (and_parts _ _ parts.0).1)) at), placed len statement rows parts.1 at all.1)
+    ap (λ (s : Span). s ∷ map (λ p. p.checking) (map places rows)) (same_span r.checking statement (and_parts _ _ parts.0).1)
+    ∙ ap (λ (l : List Span). statement ∷ l) (all_checked statement rows parts.1)
 
-nips_inside : (len : ℕ) (statement : Span) (n : ℕ) → IsInside len statement → AllByRecursion (IsInside len) (doings (replicate n (nip statement)))
-nips_inside len statement zero at = tt
-nips_inside len statement (suc n) at = (at, nips_inside len statement n at)
+pub rows_placed : (contract : Contract Slot Ty) (h : IsEmittable contract) (n : ℕ) (rows all : List Spanned) → n ≡ length h.function.params → doings rows ≡ told_of h.value
+    → all ≡ rows ++ replicate n (nip h.statement.span) → are_rows_of h.statement.span all ≡ true → ArePlaced contract (map places all)
+rows_placed contract h n rows all params told is belong = record {
+  function = h.function;
+  statement = h.statement;
+  value = h.value;
+  only = h.only;
+  body = h.body;
+  checks = h.checks;
+  done = ap (λ (l : List Spanned). map (λ r. r.doing) (map places l)) is ∙ all_done h.statement.span rows n
+      ∙ ap (λ (l : List Span). l ++ replicate n h.statement.span) told ∙ ap (λ (k : ℕ). told_of h.value ++ replicate k h.statement.span) params;
+  checked = all_checked h.statement.span all belong;
+}
 
-behind : (len : ℕ) (rows more : List Spanned) → AllByRecursion (IsInside len) (doings rows) → AllByRecursion (IsInside len) (doings more) → AllByRecursion (IsInside len) (doings (rows ++ more))
+-- ---- they lie in the source
+
+same_inside : (len n : ℕ) (statement : Span) → IsInside len statement → AllByRecursion (IsInside len) (replicate n statement)
+same_inside len zero statement at = tt
+same_inside len (suc n) statement at = (at, same_inside len n statement at)
+
+behind : (len : ℕ) (first more : List Span) → AllByRecursion (IsInside len) first → AllByRecursion (IsInside len) more → AllByRecursion (IsInside len) (first ++ more)
 behind len [] more all further = further
-behind len (r ∷ rows) more all further = (all.0, behind len rows more all.1 further)
+behind len (s ∷ first) more all further = (all.0, behind len first more all.1 further)
 
-pub rows_inside : (contract : Contract Slot Ty) (h : IsEmittable contract) (len n : ℕ) (rows all : List Spanned) → IsContractInside len contract → doings rows ≡ told_of h.value
-    → all ≡ rows ++ replicate n (nip h.statement.span) → are_rows_of h.statement.span all ≡ true → AllByRecursion (IsRowInside len) (map places all)
-rows_inside contract h len n rows all inside told is belong =
+both_inside : (len : ℕ) (rows : List SpanRow) → AllByRecursion (IsInside len) (map (λ r. r.doing) rows) → AllByRecursion (IsInside len) (map (λ r. r.checking) rows) → AllByRecursion (IsRowInside len) rows
+both_inside len [] done checked = tt
+both_inside len (r ∷ rows) done checked = ((done.0, checked.0), both_inside len rows done.1 checked.1)
+
+pub placed_inside : (contract : Contract Slot Ty) (rows : List SpanRow) (len : ℕ) → ArePlaced contract rows → IsContractInside len contract → AllByRecursion (IsRowInside len) rows
+placed_inside contract rows len h inside =
     let functions = subst (AllByRecursion (λ f. AllByRecursion (IsStatementInside len) f.body)) h.only inside in
     let statements = subst (AllByRecursion (IsStatementInside len)) h.body functions.0 in
     let value = subst (IsKindInside len) h.checks statements.0.1 in
-    let first = subst (AllByRecursion (IsInside len)) (sym told) value in
-    let every = behind len rows (replicate n (nip h.statement.span)) first (nips_inside len h.statement.span n statements.0.0) in
-    placed len h.statement.span all belong statements.0.0 (subst (λ (l : List Spanned). AllByRecursion (IsInside len) (doings l)) (sym is) every)
+    let at = statements.0.0 in
+    both_inside len rows
+    (subst (AllByRecursion (IsInside len)) (sym h.done) (behind len (told_of h.value) (replicate (length h.function.params) h.statement.span) value (same_inside len (length h.function.params) h.statement.span at)))
+    (subst (AllByRecursion (IsInside len)) (sym h.checked) (same_inside len (length rows) h.statement.span at))
 
 -- ---- both runs end alike
 

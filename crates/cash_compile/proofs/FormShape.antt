@@ -16,8 +16,8 @@ use Rattle.cash_tree.specs.declared.ExprKind.TheVariants as nodes
 use Rattle.cash_tree.specs.declared.ExprKind.TheOpen.{ExprKind-F}
 use Rattle.cash_tree.specs.declared.ExprKind.TheViews.{roll-ExprKind, roll-out-ExprKind}
 use Rattle.cash_tree.specs.declared.BinaryOp.TheVariants.{Equal}
-use Rattle.source_meaning.specs.Runnable.{HaveSlotsFrom}
-use Rattle.cash_compile.specs.Form.{Open, opened, are_ints, are_in_slots, are_few_ints, is_operand, is_comparison, is_check, is_body, is_function, is_alone, is_equality}
+use Rattle.source_meaning.specs.Runnable.{HaveSlotsFrom, are_ints}
+use Rattle.cash_compile.specs.Form.{Open, opened, are_in_slots, are_few_ints, is_operand, is_comparison, is_check, is_body, is_function, is_alone, is_equality}
 
 -- ---- operands
 
@@ -76,6 +76,7 @@ check_is count _ is = absurd cc
 pub record IsEqualityFunction (f : Function Slot Ty) : Type 0 where
   pub statement : Stmt Slot Ty
   pub few : length f.params ≤ 16
+  pub ints : are_ints f.params ≡ true
   pub in_slots : HaveSlotsFrom 0 f.params
   pub one_statement : f.body ≡ statement ∷ []
   pub check : IsCheck (length f.params) statement.kind
@@ -87,12 +88,12 @@ in_slots k (param ∷ params) is =
     let both = and_parts (param.name.0 == k) (are_in_slots (k + 1) params) is in
     (eqb-true param.name.0 k both.0, in_slots (k + 1) params both.1)
 
-few_ints : (params : List (Param Slot)) → are_few_ints params ≡ true → (length params ≤ 16) × HaveSlotsFrom 0 params
+few_ints : (params : List (Param Slot)) → are_few_ints params ≡ true → (length params ≤ 16) × (are_ints params ≡ true) × HaveSlotsFrom 0 params
 unfolding are_few_ints
 few_ints params is =
     let few = and_parts (nat_le (length params) 16) (are_ints params && are_in_slots 0 params) is in
     let slots = and_parts (are_ints params) (are_in_slots 0 params) few.1 in
-    (leb-true (length params) 16 few.0, in_slots 0 params slots.1)
+    (leb-true (length params) 16 few.0, slots.0, in_slots 0 params slots.1)
 
 abbrev IsBody : ℕ → List (Stmt Slot Ty) → Type 0
 IsBody count body = (statement : Stmt Slot Ty) × (body ≡ statement ∷ []) × IsCheck count statement.kind
@@ -109,7 +110,7 @@ function_is f is =
     let both = and_parts (are_few_ints f.params) (is_body (length f.params) f.body) is in
     let params = few_ints f.params both.0 in
     let body = body_is (length f.params) f.body both.1 in
-    record { statement = body.0; few = params.0; in_slots = params.1; one_statement = body.1; check = body.2 }
+    record { statement = body.0; few = params.0; ints = params.1; in_slots = params.2; one_statement = body.1; check = body.2 }
 
 -- ---- the contract
 

@@ -21,11 +21,10 @@ use Rattle.cash_lexer.specs.Tokens.{Find, span_at, fault_of, finds_with, finds_b
 use Rattle.cash_parser.specs.declared.fault.ParseFault.{ParseFault}
 use Rattle.cash_parser.specs.declared.fault.ParseFault.TheVariants as parser
 use Rattle.cash_parser.specs.declared.fault.DepthRule.{DepthRule}
+use Rattle.cash_parser.specs.Answer.{IsNone}
 use Rattle.cash_parser.specs.Lexemes.{Lexeme, lexemes}
 use Rattle.cash_parser.specs.DepthRules.{deepest_token}
 use Rattle.cash_parser.specs.Files.{Tree, SpellsFile}
-use Rattle.cash_parser.specs.FileReading.{tree_of}
-use Rattle.cash_parser.proofs.FileComplete.{tree_found, tree_none}
 use Rattle.cash_names.specs.declared.fault.NameFault.{NameFault}
 use Rattle.cash_names.specs.Outline.{NamedTree}
 use Rattle.cash_names.specs.Scopes.{IsNamed, first_name_fault}
@@ -42,10 +41,11 @@ use Rattle.cash_compile.specs.Compile.{max_source_len, IsText, HasTokens, HasTre
 abbrev pub OneTree : Type 0
 OneTree = (ts : List Lexeme) (a b : Tree) → SpellsFile ts a → SpellsFile ts b → a ≡ b
 
--- What the parser, the resolver and the checker of types give: one tree; one named tree, or a first fault, and no named
+-- What the parser, the resolver and the checker of types give: one tree or none; one named tree, or a first fault, and no named
 -- tree where there is one; and one contract with types, or a first fault.
 pub record Laws : Type 0 where
   pub tree : OneTree
+  pub spelled : (ts : List Lexeme) → ((tree : Tree) × SpellsFile ts tree) ⊎ IsNone ts
   pub named : (source : List ℕ) (tree : Tree) (a b : NamedTree) → IsNamed source tree a → IsNamed source tree b → a ≡ b
   pub either : (source : List ℕ) (tree : Tree) → HasOne source tree ⊎ HasFault source tree
   pub apart : (source : List ℕ) (tree : Tree) (fault : NameFault) → first_name_fault source tree ≡ Some fault → HasNone source tree
@@ -260,17 +260,15 @@ by_names : Laws → (source : List ℕ) (tree : Tree) → HasTree source tree �
 by_names laws source tree h (inl (named, is)) = by_types laws source named (first_type_fault named) refl (record { tree = tree; parsed = h; names = is })
 by_names laws source tree h (inr (fault, is)) = inr (Name fault, (tree, h, is))
 
-by_tree : Laws → (source : List ℕ) (tokens : List Token) (tree : Option Tree) → tree_of (lexemes source tokens) ≡ tree → deepest_token (lexemes source tokens) ≡ None
-    → HasTokens source tokens → IsDecided source
-by_tree laws source tokens (Some tree) is shallow h =
-    let parsed : HasTree source tree = record { tokens = tokens; cut = h; shallow = shallow; spelled = tree_found (lexemes source tokens) tree is } in
-    by_names laws source tree parsed (laws.either source tree)
-by_tree laws source tokens None is shallow h =
-    inr (Parse (parser.Syntax 0), (tokens, h, (shallow, tree_none (lexemes source tokens) is, omega arith)))
+by_tree : Laws → (source : List ℕ) (tokens : List Token) → deepest_token (lexemes source tokens) ≡ None → HasTokens source tokens
+    → ((tree : Tree) × SpellsFile (lexemes source tokens) tree) ⊎ IsNone (lexemes source tokens) → IsDecided source
+by_tree laws source tokens shallow h (inl (tree, spelled)) =
+    by_names laws source tree (record { tokens = tokens; cut = h; shallow = shallow; spelled = spelled }) (laws.either source tree)
+by_tree laws source tokens shallow h (inr none) = inr (Parse (parser.Syntax 0), (tokens, h, (shallow, none, omega arith)))
 
 by_depth : Laws → (source : List ℕ) (tokens : List Token) (deep : Option (DepthRule × Span)) → deepest_token (lexemes source tokens) ≡ deep → HasTokens source tokens → IsDecided source
 by_depth laws source tokens (Some deep) is h = inr (Parse (parser.TooDeep deep.0 deep.1), (tokens, h, is))
-by_depth laws source tokens None is h = by_tree laws source tokens (tree_of (lexemes source tokens)) refl is h
+by_depth laws source tokens None is h = by_tree laws source tokens is h (laws.spelled (lexemes source tokens))
 
 -- the lexer's fault is never want of memory
 abbrev Sure : Result (List Token) LexFault → Type 0

@@ -29,7 +29,8 @@ use Rattle.cash_lexer.specs.Dates.{date, date_piece, date_behind, is_quote}
 use Rattle.cash_lexer.specs.Rows.{word, is_word_start, is_word_byte, string, string_piece, string_len, sign, double_signs, single_signs, bad_character, gap, literal, other, piece_of}
 use Rattle.cash_lexer.specs.Tokens.{lexed}
 use Rattle.cash_lexer.specs.Laws.{IsNext, IsCut}
-use Rattle.cash_parser.specs.Lexemes.{Lexeme, Name, symbol_of, symbol_at, text_at, lexeme, lexemes}
+use Rattle.cash_parser.specs.Lexemes.{Lexeme, Name, symbol_of, symbol_at, lexeme, lexemes}
+use Rattle.cash_base.specs.Source.{text_at}
 use Rattle.cash_parser.specs.Files.{Tree, FunctionTree, SpellsParams, no_param, last_param, next_param, SpellsFunctions, no_function, one_function, SpellsFile, contract, one_constraint, two_constraints}
 use Rattle.cash_names.specs.Names.{Names}
 use Rattle.cash_names.specs.Outline.{NamedFunction, NamedTree}

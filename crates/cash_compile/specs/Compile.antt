@@ -1,5 +1,5 @@
 -- Which sources are accepted, and which are refused: what each stage wants of a source, and the first stage that gives nothing.
-use Rattle.std.specs.Prelude.{◌≡◌, ◌≢◌, ℕ, ◌<◌, ◌≤◌, true, false, List, length, Some, None, Ok, Err}
+use Rattle.std.specs.Prelude.{◌≡◌, ◌≢◌, ℕ, ◌<◌, ◌≤◌, true, false, List, length, Some, None, IsSomeAnd, Ok, Err}
 use Rattle.std.specs.Str.{IsUtf8}
 use Rattle.std.specs.Str.Lossy.{utf8_valid_len}
 use Rattle.cash_base.specs.declared.place.Slot.{Slot}
@@ -23,6 +23,7 @@ use Rattle.cash_compile.specs.declared.refusal.Refusal.{Refusal}
 use Rattle.cash_compile.specs.declared.refusal.Refusal.TheVariants.{SourceTooLong, NotUtf8, Lex, Parse, Name, Typing, NotBuilt, Memory}
 use Rattle.cash_compile.specs.Form.{is_equality}
 use Rattle.cash_compile.specs.Describes.{no_time}
+use Rattle.cash_compile.specs.Emission.{ArePlaced}
 use Rattle.cash_compile.specs.Correct.{IsCorrect}
 
 -- ---- the stages
@@ -66,12 +67,13 @@ pub record IsAccepted (source : List ℕ) (contract : Contract Slot Ty) : Type 0
   pub formed : is_equality contract ≡ true
 
 -- The source stands for the contract, the program is correct for it, and its code can be pushed as one element: nothing
--- stands before it in a redeem script so far, since no contract of the form has parameters of its own. The program tells no
--- time.
+-- stands before it in a redeem script so far, since no contract of the form has parameters of its own. Each row has its place,
+-- whether it can fail or not. The program tells no time.
 pub record IsCompiled (source : List ℕ) (contract : Contract Slot Ty) (program : Artifact) : Type 0 where
   pub accepted : IsAccepted source contract
   pub correct : IsCorrect source contract program
   pub fits : length (spellings program.code) ≤ 520
+  pub placed : IsSomeAnd program.spans (λ rows. ArePlaced contract rows)
   pub updated : program.updated ≡ no_time
 
 -- ---- the refusals

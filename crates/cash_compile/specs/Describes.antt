@@ -9,7 +9,7 @@ use Rattle.cash_tree.specs.declared.Param.{Param}
 use Rattle.cash_tree.specs.declared.Function.{Function}
 use Rattle.cash_tree.specs.declared.Contract.{Contract}
 use Rattle.cash_parser.specs.Inside.{IsInside}
-use Rattle.cash_parser.specs.Lexemes.{text_at}
+use Rattle.cash_base.specs.Source.{text_at}
 use Rattle.span_map.specs.declared.SpanRow.{SpanRow}
 use Rattle.artifact_json.specs.Artifact.{Artifact, AbiParam, AbiCall}
 

@@ -1,5 +1,5 @@
 -- What the emitter promises of the rows that it adds.
-use Rattle.std.specs.Prelude.{◌≡◌, ℕ, ◌<◌, ◌≤◌, List, [], ◌∷◌, ◌++◌, length, slice_index_or, Result, Ok, Err}
+use Rattle.std.specs.Prelude.{◌≡◌, ℕ, ◌<◌, ◌≤◌, List, [], ◌∷◌, ◌++◌, length, map, replicate, slice_index_or, Result, Ok, Err}
 use Rattle.cash_base.specs.declared.fault.MachineCause.TheVariants.{Shared}
 use Rattle.std.specs.List.{AllByRecursion}
 use Rattle.cash_base.specs.declared.place.Slot.{Slot}
@@ -21,6 +21,7 @@ use Rattle.script_codec.specs.declared.spans.Spanned.{Spanned}
 use Rattle.bch_vm.specs.Stack.{Stack}
 use Rattle.bch_vm.specs.Script.{State, Progress, state}
 use Rattle.cash_compile.specs.declared.emission.Emitter.{Emitter}
+use Rattle.span_map.specs.declared.SpanRow.{SpanRow}
 use Rattle.span_map.specs.Places.{place_in}
 use Rattle.cash_compile.specs.Rows.{RowFailure, run_rows, places}
 
@@ -60,6 +61,18 @@ node_told e = e.kind e.span
 
 abbrev pub told_of : Expr Slot Ty → List Span
 told_of = fold-Expr Slot Ty (Span → List Span) (List Span) kind_told node_told
+
+-- The rows of a contract's one statement: those of its value, and behind them one for each parameter that is dropped, which
+-- has the statement's own place. Each of them belongs to this statement.
+pub record ArePlaced (contract : Contract Slot Ty) (rows : List SpanRow) : Type 0 where
+  pub function : Function Slot Ty
+  pub statement : Stmt Slot Ty
+  pub value : Expr Slot Ty
+  pub only : contract.functions ≡ function ∷ []
+  pub body : function.body ≡ statement ∷ []
+  pub checks : statement.kind ≡ Require value
+  pub done : map (λ r. r.doing) rows ≡ told_of value ++ replicate (length function.params) statement.span
+  pub checked : map (λ r. r.checking) rows ≡ replicate (length rows) statement.span
 
 -- all places of a contract's code lie in a source of so many bytes
 abbrev pub IsKindInside : ℕ → StmtKind Slot Ty → Type 0

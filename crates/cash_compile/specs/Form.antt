@@ -4,10 +4,8 @@
 -- in order; its body requires that two operands are equal. An operand is one of the parameters, or a number of at most
 -- 16, its unit counted in. Pragmas, names and types were judged before.
 use Rattle.std.specs.Prelude.{ℕ, ◌+◌, ◌*◌, ◌==◌, nat_le, nat_lt, Bool, true, false, ◌&&◌, List, [], ◌∷◌, length}
-use Rattle.std.specs.List.{list_all}
 use Rattle.cash_base.specs.declared.place.Slot.{Slot}
 use Rattle.cash_tree.specs.declared.Ty.{Ty}
-use Rattle.cash_tree.specs.declared.Ty.TheVariants as types
 use Rattle.cash_tree.specs.declared.Contract.{Contract}
 use Rattle.cash_tree.specs.declared.Param.{Param}
 use Rattle.cash_tree.specs.declared.Function.{Function}
@@ -18,15 +16,9 @@ use Rattle.cash_tree.specs.declared.Expr.{Expr}
 use Rattle.cash_tree.specs.declared.ExprKind.{ExprKind, out-ExprKind}
 use Rattle.cash_tree.specs.declared.ExprKind.TheOpen.{ExprKind-F}
 use Rattle.cash_tree.specs.declared.BinaryOp.TheVariants.{Equal}
+use Rattle.source_meaning.specs.Runnable.{are_ints}
 
 -- ---- the parameters
-
-abbrev pub is_int : Ty → Bool
-is_int types.Int = true
-is_int _ = false
-
-abbrev pub are_ints : List (Param Slot) → Bool
-are_ints params = list_all (λ (param : Param Slot). is_int param.ty) params
 
 -- the parameters have the slots from k on, in order
 unfoldable pub are_in_slots : ℕ → List (Param Slot) → Bool

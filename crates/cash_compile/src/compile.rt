@@ -1,6 +1,6 @@
 //! From a source to the program of its contract.
 
-ghost use Rattle.std.specs.Prelude.{◌≡◌, ◌≢◌, ◌⊎◌, ◌^◌, ◌<◌, ◌≤◌, ℕ, List, length, map, IfOk, IfErr};
+ghost use Rattle.std.specs.Prelude.{◌≡◌, ◌≢◌, ◌⊎◌, ◌^◌, ◌<◌, ◌≤◌, ℕ, List, length, map, IsSomeAnd, IfOk, IfErr};
 ghost use Rattle.std.specs.List.{AllByRecursion};
 ghost use Rattle.cash_base.specs.declared.place.Slot.{Slot};
 ghost use Rattle.cash_tree.specs.declared.Ty.{Ty};
@@ -12,6 +12,7 @@ ghost use Rattle.cash_compile.specs.declared.refusal.Refusal.TheVariants.{Memory
 ghost use Rattle.cash_compile.specs.Rows.{places, AreFew};
 ghost use Rattle.cash_compile.specs.Describes.{IsRowInside, no_time};
 ghost use Rattle.cash_compile.specs.Decides.{AgreesByRun};
+ghost use Rattle.cash_compile.specs.Emission.{ArePlaced};
 ghost use Rattle.cash_compile.specs.Correct.{IsCorrect};
 ghost use Rattle.cash_compile.specs.Compile.{IsAccepted, IsCompiled, IsRefused, AreSame};
 
@@ -42,10 +43,10 @@ pub struct Compiled {
 /// The contract that a source stands for, and a program that is correct for it, of at most 520 bytes of code.
 ///
 /// Each spend that is built of the program ends as the run of the source: accepted where the run is met, and otherwise
-/// refused in the redeem script, with the cause and at the place of the run's failure. Each refusal comes
-/// exactly where its cause stands in the source, in the order of [`Refusal`]: the length, UTF-8, the tokens, how deep
-/// they nest, the tree, its pragmas and names, its types, and the form that is built so far. Memory may be wanting at
-/// any time.
+/// refused in the redeem script, with the cause and at the place of the run's failure. The places of all instructions
+/// are exact (`ArePlaced`). Each refusal comes exactly where its cause stands in the source, in the order of
+/// [`Refusal`]: the length, UTF-8, the tokens, how deep they nest, the tree, its pragmas and names, its types, and the
+/// form that is built so far. Memory may be wanting at any time.
 #[tactic(auto, using(crate::proofs::Accepted::equality_emittable))]
 pub fn compile(alloc: Global, source: &[u8]) -> Result<Compiled, Refusal>
     requires { length source.now < 2 ^ 32 }
@@ -74,9 +75,11 @@ fn correct_program(
     requires accepted { IsAccepted source.now contract.now }
     requires agrees { AgreesByRun contract.now rows.items }
     requires few { AreFew rows.items }
+    requires placed { ArePlaced contract.now (map places rows.items) }
     requires inside { AllByRecursion (IsRowInside (length source.now)) (map places rows.items) }
     ensures correct { IfOk result (λ program. IsCorrect source.now contract.now program) }
     ensures fits { IfOk result (λ program. length (spellings program.code) ≤ 520) }
+    ensures placed { IfOk result (λ program. IsSomeAnd program.spans (ArePlaced contract.now)) }
     ensures updated { IfOk result (λ program. program.updated ≡ no_time) }
     ensures few { IfOk result (λ program. HasFewInputs program) }
 {

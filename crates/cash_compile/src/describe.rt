@@ -2,14 +2,13 @@
 
 ghost use Rattle.std.specs.Prelude.{◌≡◌, length, map, string_bytes, IfOk, IsTrue};
 ghost use Rattle.std.specs.List.{AllByRecursion};
-ghost use Rattle.cash_parser.specs.Lexemes;
 ghost use Rattle.std.specs.Str.{IsUtf8};
 ghost use Rattle.script_codec.specs.Spelling.{are_instructions};
 ghost use Rattle.cash_compile.specs.Rows.{instructions, places};
 ghost use Rattle.cash_compile.specs.Describes.{IsRowInside, lossy_at, described_param, described_function, no_time, DescribesBy};
 
 use artifact_json::{AbiFunction, AbiInput, Program};
-use cash_base::{Memory, Slot, Span};
+use cash_base::{Memory, Slot, Span, text_at};
 use cash_tree::{Function, Param, Ty, TypedContract};
 use script_codec::{Instr, Spanned};
 use span_map::SpanRow;
@@ -74,15 +73,6 @@ fn split(alloc: Global, rows: Vec<Spanned>) -> Result<CodeAndPlaces, Memory>
         spans.push(SpanRow { doing, checking })?;
     }
     Ok(CodeAndPlaces { code, spans })
-}
-
-/// The text of a source at a span.
-fn text_at(source: &[u8], span: Span) -> &[u8]
-    ensures { result.now ≡ Lexemes.text_at source.now span }
-{
-    let rest = source.get(span.from as usize..).unwrap_or(&[]);
-    let len = span.to.saturating_sub(span.from) as usize;
-    rest.get(..len).unwrap_or(rest)
 }
 
 fn name_of(alloc: Global, source: &[u8], span: Span) -> Result<String, Memory>

@@ -1,7 +1,6 @@
 //! From a typed contract to instructions with their places.
 
 ghost use Rattle.std.specs.Prelude.{◌≡◌, ◌+◌, ◌*◌, ◌≤◌, ◌<◌, ◌^◌, [], ◌∷◌, ◌++◌, length, map, pos, negsuc, ◌<ℤ◌, true, ℕ, IsTrue, OnOk, IfOk, replicate};
-ghost use Rattle.std.specs.List.{AllByRecursion};
 ghost use Rattle.cash_base.specs.Number.{minimal_bytes};
 ghost use Rattle.cash_tree.specs.declared.ExprKind.TheOpen.{ExprKind-F};
 ghost use Rattle.source_meaning.specs.Meaning.{value_of, kind_value};
@@ -10,8 +9,7 @@ ghost use Rattle.script_codec.specs.declared.instr.Instr.TheVariants.{Push, Do};
 ghost use Rattle.script_codec.specs.Spelling.{spelling};
 ghost use Rattle.cash_compile.specs.Rows.{row, doings, places, code_size, is_plain, are_rows_of, AreFew};
 ghost use Rattle.cash_compile.specs.Decides.{AgreesByRun};
-ghost use Rattle.cash_compile.specs.Describes.{IsRowInside};
-ghost use Rattle.cash_compile.specs.Emission.{Emits, IsEmittable, IsContractInside, kind_told, told_of};
+ghost use Rattle.cash_compile.specs.Emission.{Emits, IsEmittable, ArePlaced, kind_told, told_of};
 
 use cash_base::{Element, Slot, Span, write_number};
 use cash_tree::{BinaryOp, Expr, ExprKind, StmtKind, Ty, TypedContract};
@@ -169,8 +167,7 @@ pub fn emit(alloc: Global, contract: &TypedContract) -> Result<Vec<Spanned>, All
     requires { IsEmittable contract.now }
     ensures agrees { IfOk result (λ rows. AgreesByRun contract.now rows.items) }
     ensures few { IfOk result (λ rows. AreFew rows.items) }
-    ensures inside { IfOk result (λ rows. (len : ℕ) → IsContractInside len contract.now
-        → AllByRecursion (IsRowInside len) (map places rows.items)) }
+    ensures placed { IfOk result (λ rows. ArePlaced contract.now (map places rows.items)) }
 {
     let function = &contract.functions.as_slice()[0];
     let statement = &function.body.as_slice()[0];

@@ -1,6 +1,7 @@
 //! The form of contract that is built so far.
 
 ghost use Rattle.std.specs.Prelude.{◌≡◌, ◌≤◌, ◌+◌, length};
+ghost use Rattle.source_meaning.specs.Runnable;
 ghost use Rattle.cash_compile.specs.Form;
 ghost use Rattle.cash_compile.specs.Form.{opened};
 
@@ -8,13 +9,13 @@ use cash_base::Slot;
 use cash_tree::{BinaryOp, Expr, ExprKind, Function, Param, Stmt, StmtKind, Ty, TypedContract};
 
 fn is_int(ty: &Ty) -> bool
-    ensures { result ≡ Form.is_int ty.now }
+    ensures { result ≡ Runnable.is_int ty.now }
 {
     matches!(ty, Ty::Int)
 }
 
 fn are_ints(params: &[Param<Slot>]) -> bool
-    ensures { result ≡ Form.are_ints params.now }
+    ensures { result ≡ Runnable.are_ints params.now }
 {
     params.iter().all(|param| is_int(&param.ty))
 }

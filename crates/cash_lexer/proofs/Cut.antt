@@ -1,7 +1,7 @@
 -- The tokens that are found cut their text.
 use Rattle.std.proofs.Common.{◌≡◌, ℕ, zero, suc, ◌+◌, ◌-◌, ◌<◌, ◌≤◌, List, [], ◌∷◌, ◌++◌, length, map, take, drop, Option, Some, None, Result, Ok, Err, refl, sym, ap, ◌∙◌, subst, arith, drop-drop, append_assoc, append-nil, zero-add}
 use Rattle.std.proofs.lemmas.List.{length-drop, take-append-drop}
-use Rattle.std.proofs.Math.Seq.{take-length, take-nil}
+use Rattle.std.proofs.Math.Seq.{take-length, take-nil, drop-length}
 use Rattle.cash_tree.specs.declared.Token.{Token}
 use Rattle.cash_tree.specs.declared.TokenKind.{TokenKind}
 use Rattle.cash_lexer.specs.declared.piece.Piece.{Piece}
@@ -26,7 +26,7 @@ pub record Next (at : ℕ) (text : List ℕ) (token : Token) (more : List Find) 
   pub behind : at ≤ token.span.from
   pub some : token.span.from < token.span.to
   pub inside : token.span.to ≤ at + length text
-  pub gap : IsGap (take (token.span.from - at) text)
+  pub gap : IsGap (drop (token.span.from - at) text) (take (token.span.from - at) text)
   pub begins : piece_of (drop (token.span.from - at) text) ≡ Some (Known token.kind (token.span.to - token.span.from))
   pub rest : more ≡ finds token.span.to (drop (token.span.to - at) text)
 
@@ -59,7 +59,8 @@ next_behind_gap at len text token more is h =
       behind = omega arith;
       some = some;
       inside = omega (arith, length-drop len text, inside, fits);
-      gap = subst IsGap (further_take text at len token.span.from behind) (gap_in_front text len (token.span.from - (at + len)) is h.gap);
+      gap = subst (λ (xs : List ℕ). IsGap xs (take (token.span.from - at) text)) (further_drop text at len token.span.from behind)
+          (subst (IsGap (drop (token.span.from - (at + len)) (drop len text))) (further_take text at len token.span.from behind) (gap_in_front text len (token.span.from - (at + len)) is h.gap));
       begins = ap piece_of (sym (further_drop text at len token.span.from behind)) ∙ h.begins;
       rest = h.rest ∙ ap (finds token.span.to) (further_drop text at len token.span.to later);
     }
@@ -73,7 +74,7 @@ next_here at len kind text more is rest =
       behind = omega arith;
       some = omega (arith, fits);
       inside = omega (arith, fits);
-      gap = subst (λ n. IsGap (take n text)) (sym none) IsGap.nothing;
+      gap = subst (λ n. IsGap (drop n text) (take n text)) (sym none) (IsGap.nothing text);
       begins = ap (λ n. piece_of (drop n text)) none ∙ is ∙ ap (λ n. Some (Known kind n)) (sym same);
       rest = rest ∙ ap (λ n. finds (at + len) (drop n text)) (sym same);
     }
@@ -117,19 +118,23 @@ next at text token more found = next_found (length text) at text token more (ome
 -- ---- the end of the text
 
 end_step : (n at : ℕ) (text : List ℕ) (o : Option Piece) → piece_of text ≡ o → length text ≤ suc n
-    → ((at' : ℕ) (text' : List ℕ) → length text' ≤ n → finds at' text' ≡ [] → IsGap text') → finds at text ≡ [] → IsGap text
-end_step n at text None is short ih found = subst IsGap (sym (none_ends text is)) IsGap.nothing
+    → ((at' : ℕ) (text' : List ℕ) → length text' ≤ n → finds at' text' ≡ [] → IsGap [] text') → finds at text ≡ [] → IsGap [] text
+end_step n at text None is short ih found = subst (IsGap []) (sym (none_ends text is)) (IsGap.nothing [])
 end_step n at text (Some (Gap len)) is short ih found =
     let fits = gap_len text len is in
     let rest = ih (at + len) (drop len text) (omega (arith, length-drop len text, fits)) (sym (gap_here at text len is) ∙ found) in
-    let all : take (length (drop len text)) (drop len text) ≡ drop len text = take-length (drop len text) in
-    let whole : take len text ++ take (length (drop len text)) (drop len text) ≡ text = ap (λ (xs : List ℕ). take len text ++ xs) all ∙ take-append-drop len text in
-    subst IsGap whole (gap_in_front text len (length (drop len text)) is (subst IsGap (sym all) rest))
-end_step n at text (Some (Known kind len)) is short ih found = none_first (IsGap text) (sym found ∙ known_here at text kind len is)
-end_step n at text (Some (Flawed flaw len)) is short ih found = none_first (IsGap text) (sym found ∙ flawed_here at text flaw len is)
+    let left = drop len text in
+    let all : take (length left) left ≡ left = take-length left in
+    let end : drop (length left) left ≡ [] = drop-length left in
+    let whole : take len text ++ take (length left) left ≡ text = ap (λ (xs : List ℕ). take len text ++ xs) all ∙ take-append-drop len text in
+    let gap_left : IsGap (drop (length left) left) (take (length left) left) =
+    subst (λ (xs : List ℕ). IsGap xs (take (length left) left)) (sym end) (subst (IsGap []) (sym all) rest) in
+    subst (IsGap []) whole (subst (λ (xs : List ℕ). IsGap xs (take len text ++ take (length left) left)) end (gap_in_front text len (length left) is gap_left))
+end_step n at text (Some (Known kind len)) is short ih found = none_first (IsGap [] text) (sym found ∙ known_here at text kind len is)
+end_step n at text (Some (Flawed flaw len)) is short ih found = none_first (IsGap [] text) (sym found ∙ flawed_here at text flaw len is)
 
-end_found : (n at : ℕ) (text : List ℕ) → length text ≤ n → finds at text ≡ [] → IsGap text
-end_found zero at [] short found = IsGap.nothing
+end_found : (n at : ℕ) (text : List ℕ) → length text ≤ n → finds at text ≡ [] → IsGap [] text
+end_found zero at [] short found = IsGap.nothing []
 end_found zero at (byte ∷ rest) short found = absurd (omega (arith, short))
 end_found (suc n) at text short found = end_step n at text (piece_of text) refl short (λ at' text' short' found'. end_found n at' text' short' found') found
 

@@ -99,13 +99,13 @@ one_more n x xs = let e : 1 + n ≡ suc n = omega arith in ap (λ k. take k (x �
 one_less : (n : ℕ) (x : ℕ) (xs : List ℕ) → drop (1 + n) (x ∷ xs) ≡ drop n xs
 one_less n x xs = let e : 1 + n ≡ suc n = omega arith in ap (λ k. drop k (x ∷ xs)) e
 
-blank_step : (t : Bool) (byte n : ℕ) (text rest : List ℕ) → is_blank byte ≡ t → IsGap rest → IsGap (take n text ++ rest) → IsGap (take (cond t (1 + n) 0) (byte ∷ text) ++ rest)
-blank_step true byte n text rest is h more = subst (λ (xs : List ℕ). IsGap (xs ++ rest)) (sym (one_more n byte text)) (IsGap.blank byte (take n text ++ rest) is more)
-blank_step false byte n text rest is h more = h
+blank_step : (after : List ℕ) (t : Bool) (byte n : ℕ) (text rest : List ℕ) → is_blank byte ≡ t → IsGap after rest → IsGap after (take n text ++ rest) → IsGap after (take (cond t (1 + n) 0) (byte ∷ text) ++ rest)
+blank_step after true byte n text rest is h more = subst (λ (xs : List ℕ). IsGap after (xs ++ rest)) (sym (one_more n byte text)) (IsGap.blank after byte (take n text ++ rest) is more)
+blank_step after false byte n text rest is h more = h
 
-blanks_gap : (text rest : List ℕ) → IsGap rest → IsGap (take (blank_len text) text ++ rest)
-blanks_gap [] rest h = h
-blanks_gap (byte ∷ text) rest h = blank_step (is_blank byte) byte (blank_len text) text rest refl h (blanks_gap text rest h)
+blanks_gap : (after text rest : List ℕ) → IsGap after rest → IsGap after (take (blank_len text) text ++ rest)
+blanks_gap after [] rest h = h
+blanks_gap after (byte ∷ text) rest h = blank_step after (is_blank byte) byte (blank_len text) text rest refl h (blanks_gap after text rest h)
 
 -- ---- texts that begin with a sign
 
@@ -146,18 +146,17 @@ ends_behind : (text : List ℕ) → ends_line (drop (line_len text) text) ≡ tr
 ends_behind [] = refl
 ends_behind (byte ∷ text) = end_step (is_in_line byte) byte (line_len text) text refl (ends_behind text)
 
-ends_taken : (k : ℕ) (text : List ℕ) → ends_line text ≡ true → ends_line (take k text) ≡ true
-ends_taken zero text is = refl
-ends_taken (suc k) [] is = refl
-ends_taken (suc k) (byte ∷ text) is = is
-
-line_gap : (behind : List ℕ) (k : ℕ) → let text = 47 ∷ 47 ∷ behind in IsGap (take k (drop (line_len text) text)) → IsGap (take (line_len text) text ++ take k (drop (line_len text) text))
+-- the comment with which a text begins, in front of some bytes that are a gap in front of the rest
+line_gap : (behind : List ℕ) (k : ℕ) → let text = 47 ∷ 47 ∷ behind in IsGap (drop k (drop (line_len text) text)) (take k (drop (line_len text) text))
+    → IsGap (drop k (drop (line_len text) text)) (take (line_len text) text ++ take k (drop (line_len text) text))
 line_gap behind k h =
     let n = line_len behind in
     let whole = 47 ∷ 47 ∷ behind in
+    let left = drop (line_len whole) whole in
     let front : take (line_len whole) whole ≡ 47 ∷ 47 ∷ take n behind = one_more (1 + n) 47 (47 ∷ behind) ∙ ap (λ (xs : List ℕ). 47 ∷ xs) (one_more n 47 behind) in
-    subst (λ (xs : List ℕ). IsGap (xs ++ take k (drop (line_len whole) whole))) (sym front)
-    (IsGap.line (take n behind) (take k (drop (line_len whole) whole)) (all_in_line behind) (ends_taken k (drop (line_len whole) whole) (ends_behind whole)) h)
+    let ends : ends_line (take k left ++ drop k left) ≡ true = ap ends_line (take-append-drop k left) ∙ ends_behind whole in
+    subst (λ (xs : List ℕ). IsGap (drop k left) (xs ++ take k left)) (sym front)
+    (IsGap.line (drop k left) (take n behind) (take k left) (all_in_line behind) ends h)
 
 -- ---- a comment with two ends
 
@@ -211,49 +210,53 @@ closes : (text : List ℕ) (n : ℕ) → closing_len text ≡ Some n → Closes 
 closes [] n is = absurd cc
 closes (byte ∷ rest) n is = closes_step (starts_with nat_eq (byte ∷ rest) (codes "*/")) (closing_len rest) byte rest n refl refl (closes rest) is
 
-block_gap : (behind rest : List ℕ) (n : ℕ) → Closes behind n → IsGap rest → IsGap (take (n + 2) (47 ∷ 42 ∷ behind) ++ rest)
-block_gap behind rest n h gap_behind =
+block_gap : (after behind rest : List ℕ) (n : ℕ) → Closes behind n → IsGap after rest → IsGap after (take (n + 2) (47 ∷ 42 ∷ behind) ++ rest)
+block_gap after behind rest n h gap_behind =
     let two : suc (suc n) ≡ n + 2 = omega arith in
     let front : take (n + 2) (47 ∷ 42 ∷ behind) ≡ 47 ∷ 42 ∷ (h.inside ++ codes "*/") = ap (λ m. take m (47 ∷ 42 ∷ behind)) (sym two) ∙ ap (λ (xs : List ℕ). 47 ∷ 42 ∷ xs) h.taken in
-    subst (λ (xs : List ℕ). IsGap (xs ++ rest)) (sym front) (IsGap.block h.inside rest h.first gap_behind)
+    subst (λ (xs : List ℕ). IsGap after (xs ++ rest)) (sym front) (IsGap.block after h.inside rest h.first gap_behind)
 
 -- ---- the rows of gaps
 
 gap_is : {a b : ℕ} → Some (Gap a) ≡ Some (Gap b) → a ≡ b
 gap_is e = cc
 
-blanks_row : (t : Bool) (text : List ℕ) (len : ℕ) (rest : List ℕ) → cond t (Some (Gap (blank_len text))) None ≡ Some (Gap len) → IsGap rest → IsGap (take len text ++ rest)
-blanks_row true text len rest is h = subst (λ n. IsGap (take n text ++ rest)) (gap_is is) (blanks_gap text rest h)
-blanks_row false text len rest is h = absurd cc
+blanks_row : (after : List ℕ) (t : Bool) (text : List ℕ) (len : ℕ) (rest : List ℕ) → cond t (Some (Gap (blank_len text))) None ≡ Some (Gap len) → IsGap after rest → IsGap after (take len text ++ rest)
+blanks_row after true text len rest is h = subst (λ n. IsGap after (take n text ++ rest)) (gap_is is) (blanks_gap after text rest h)
+blanks_row after false text len rest is h = absurd cc
 
-block_row : (o : Option ℕ) (behind : List ℕ) (len : ℕ) (rest : List ℕ) → closing_len behind ≡ o → Some (block_comment (47 ∷ 42 ∷ behind) o) ≡ Some (Gap len)
-    → IsGap rest → IsGap (take len (47 ∷ 42 ∷ behind) ++ rest)
-block_row (Some n) behind len rest found is h = subst (λ m. IsGap (take m (47 ∷ 42 ∷ behind) ++ rest)) (gap_is is) (block_gap behind rest n (closes behind n found) h)
-block_row None behind len rest found is h = absurd cc
+block_row : (after : List ℕ) (o : Option ℕ) (behind : List ℕ) (len : ℕ) (rest : List ℕ) → closing_len behind ≡ o → Some (block_comment (47 ∷ 42 ∷ behind) o) ≡ Some (Gap len)
+    → IsGap after rest → IsGap after (take len (47 ∷ 42 ∷ behind) ++ rest)
+block_row after (Some n) behind len rest found is h = subst (λ m. IsGap after (take m (47 ∷ 42 ∷ behind) ++ rest)) (gap_is is) (block_gap after behind rest n (closes behind n found) h)
+block_row after None behind len rest found is h = absurd cc
+
+-- so many bytes of a text, and behind them a gap in front of the rest, are a gap in front of the rest
+abbrev JoinsGap : ℕ → ℕ → List ℕ → Type 0
+JoinsGap len k text = IsGap (drop k (drop len text)) (take k (drop len text)) → IsGap (drop k (drop len text)) (take len text ++ take k (drop len text))
 
 comment_row : (t u : Bool) (text : List ℕ) (len k : ℕ) → starts_with nat_eq text (codes "//") ≡ t → starts_with nat_eq text (codes "/*") ≡ u
     → cond t (Some (Gap (line_len text))) (cond u (Some (block_comment text (closing_len (drop 2 text)))) None) ≡ Some (Gap len)
-    → IsGap (take k (drop len text)) → IsGap (take len text ++ take k (drop len text))
-comment_row true u text len k line block is h =
-    let Line : List ℕ → Type 0 = λ xs. IsGap (take k (drop (line_len xs) xs)) → IsGap (take (line_len xs) xs ++ take k (drop (line_len xs) xs)) in
+    → JoinsGap len k text
+comment_row true u text len k line block is =
+    let Line : List ℕ → Type 0 = λ xs. JoinsGap (line_len xs) k xs in
     let row : Line text = subst Line (sym (begins_with text (codes "//") line)) (line_gap (drop 2 text) k) in
-    let Len : ℕ → Type 0 = λ n. IsGap (take k (drop n text)) → IsGap (take n text ++ take k (drop n text)) in
-    subst Len (gap_is is) row h
-comment_row false true text len k line block is h =
-    let Block : List ℕ → Type 0 = λ xs. Some (block_comment xs (closing_len (drop 2 text))) ≡ Some (Gap len) → IsGap (take len xs ++ take k (drop len text)) in
-    subst Block (sym (begins_with text (codes "/*") block)) (λ e. block_row (closing_len (drop 2 text)) (drop 2 text) len (take k (drop len text)) refl e h) is
-comment_row false false text len k line block is h = absurd cc
+    subst (λ n. JoinsGap n k text) (gap_is is) row
+comment_row false true text len k line block is = λ h.
+    let after = drop k (drop len text) in
+    let Block : List ℕ → Type 0 = λ xs. Some (block_comment xs (closing_len (drop 2 text))) ≡ Some (Gap len) → IsGap after (take len xs ++ take k (drop len text)) in
+    subst Block (sym (begins_with text (codes "/*") block)) (λ e. block_row after (closing_len (drop 2 text)) (drop 2 text) len (take k (drop len text)) refl e h) is
+comment_row false false text len k line block is = absurd cc
 
 gap_rows : (a b : Option Piece) (len : ℕ) (P : Type 0) → option_or a b ≡ Some (Gap len) → (a ≡ Some (Gap len) → P) → (b ≡ Some (Gap len) → P) → P
 gap_rows (Some x) b len P is p q = p is
 gap_rows None b len P is p q = q is
 
 -- what a gap takes, in front of a gap behind it, is a gap
-pub gap_in_front : (text : List ℕ) (len k : ℕ) → piece_of text ≡ Some (Gap len) → IsGap (take k (drop len text)) → IsGap (take len text ++ take k (drop len text))
+pub gap_in_front : (text : List ℕ) (len k : ℕ) → piece_of text ≡ Some (Gap len) → JoinsGap len k text
 unfolding blanks comment
-gap_in_front text len k is h =
-    gap_rows (blanks text) (comment text) len (IsGap (take len text ++ take k (drop len text))) (gap_row text len is)
-    (λ e. blanks_row _ text len (take k (drop len text)) e h)
+gap_in_front text len k is = λ h.
+    gap_rows (blanks text) (comment text) len (IsGap (drop k (drop len text)) (take len text ++ take k (drop len text))) (gap_row text len is)
+    (λ e. blanks_row (drop k (drop len text)) _ text len (take k (drop len text)) e h)
     (λ e. comment_row (starts_with nat_eq text (codes "//")) (starts_with nat_eq text (codes "/*")) text len k refl refl e h)
 
 -- ---- the end

@@ -12,25 +12,25 @@ abbrev pub ends_line : List ℕ → Bool
 ends_line [] = true
 ends_line (byte ∷ rest) = byte == 10
 
--- Blanks and comments in any number. A comment of a line ends in front of a line feed, or at the end, and the other
--- kind with its first `*/`.
-pub data IsGap : List ℕ → Type 0 where
-  nothing : IsGap []
-  blank : (byte : ℕ) (rest : List ℕ) → IsTrue (is_blank byte) → IsGap rest → IsGap (byte ∷ rest)
-  line : (inside rest : List ℕ) → IsTrue (list_all is_in_line inside) → IsTrue (ends_line rest) → IsGap rest → IsGap ((codes "//" ++ inside) ++ rest)
-  block : (inside rest : List ℕ) → closing_len (inside ++ codes "*/") ≡ Some (length inside + 2) → IsGap rest → IsGap ((codes "/*" ++ (inside ++ codes "*/")) ++ rest)
+-- In front of a text that stands behind them, blanks and comments in any number. A comment of a line ends in front of a line
+-- feed, or at the end of all, and the other kind with its first `*/`.
+pub data IsGap : List ℕ → List ℕ → Type 0 where
+  nothing : (behind : List ℕ) → IsGap behind []
+  blank : (behind : List ℕ) (byte : ℕ) (rest : List ℕ) → IsTrue (is_blank byte) → IsGap behind rest → IsGap behind (byte ∷ rest)
+  line : (behind inside rest : List ℕ) → IsTrue (list_all is_in_line inside) → IsTrue (ends_line (rest ++ behind)) → IsGap behind rest → IsGap behind ((codes "//" ++ inside) ++ rest)
+  block : (behind inside rest : List ℕ) → closing_len (inside ++ codes "*/") ≡ Some (length inside + 2) → IsGap behind rest → IsGap behind ((codes "/*" ++ (inside ++ codes "*/")) ++ rest)
 
 -- Of a text that stands at a place this is the next token: behind blanks and comments the text begins with it.
 pub record IsNext (at : ℕ) (token : Token) (text : List ℕ) : Type 0 where
   pub behind : at ≤ token.span.from
   pub some : token.span.from < token.span.to
   pub inside : token.span.to ≤ at + length text
-  pub gap : IsGap (take (token.span.from - at) text)
+  pub gap : IsGap (drop (token.span.from - at) text) (take (token.span.from - at) text)
   pub begins : piece_of (drop (token.span.from - at) text) ≡ Some (Known token.kind (token.span.to - token.span.from))
 
 -- A text that stands at a place is these tokens, with blanks and comments before, between and behind them.
 abbrev pub IsCut : ℕ → List Token → List ℕ → Type 0
-IsCut at [] text = IsGap text
+IsCut at [] text = IsGap [] text
 IsCut at (token ∷ tokens) text = IsNext at token text × IsCut token.span.to tokens (drop (token.span.to - at) text)
 
 -- From a place of the source on the next token is the first of these, and from its end on the next, up to the end.

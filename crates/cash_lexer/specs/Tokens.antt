@@ -1,6 +1,7 @@
 -- The tokens of a text. The source of the rules is the CashScript 0.7 documentation with its grammar. This project's own
 -- are: the escapes of strings, the exponent of numbers and their limit of 128 bits, the shape of dates and that they are
--- read as UTC, that `a-5` is a subtraction, that a word may begin with `_`, and the faults with their spans.
+-- read as UTC, that `a-5` is a subtraction, that a word may begin with `_`, that only a line feed ends a comment behind
+-- `//`, and the faults with their spans.
 use Rattle.std.specs.Prelude.{ℕ, zero, suc, ◌+◌, ◌-◌, List, [], ◌∷◌, ◌++◌, Option, Some, None, Result, Ok, Err}
 use Rattle.cash_base.specs.declared.place.Span.{Span}
 use Rattle.cash_tree.specs.declared.Token.{Token}

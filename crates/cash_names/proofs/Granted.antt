@@ -4,7 +4,8 @@ use Rattle.std.specs.Prelude.{Option, Some, None, Ok, Err}
 use Rattle.cash_base.specs.declared.place.Span.{Span}
 use Rattle.cash_names.specs.declared.scope.Variable.{Variable}
 use Rattle.cash_names.specs.declared.fault.NameFault.{NameFault}
-use Rattle.cash_names.specs.Names.{look, has_room, text_at}
+use Rattle.cash_names.specs.Names.{look, has_room}
+use Rattle.cash_base.specs.Source.{text_at}
 use Rattle.cash_names.specs.Pragmas.{constraint_text, admits}
 use Rattle.cash_names.specs.Wants.{Want, is_admitted, is_new, is_known, is_variable, is_callable, has_function, IsGranted, AreGranted, unless_admitted, unless_new, unless_known, unless_variable, if_constant, if_without, refusal, ◌or◌, first_refused, granted}
 use Rattle.cash_names.specs.Reading.{Answer, ◌>>=◌, given}

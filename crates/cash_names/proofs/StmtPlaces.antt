@@ -9,7 +9,8 @@ use Rattle.cash_tree.specs.declared.StmtKind.TheVariants as nodes
 use Rattle.cash_tree.specs.declared.StmtKind.TheOpen.{StmtKind-F, Stmt-F}
 use Rattle.cash_tree.specs.declared.StmtKind.TheViews.{roll-Stmt, roll-StmtKind}
 use Rattle.cash_tree.specs.declared.StmtKind.TheFolds.{fold-StmtKind, ind-Stmt, fold-roll-Stmt, fold-roll-StmtKind, map-StmtKind}
-use Rattle.cash_names.specs.Names.{Names, no_names, opened, most_params, most_functions, most_definitions, declared, text_at, slot, slot_at, behind}
+use Rattle.cash_names.specs.Names.{Names, no_names, opened, most_params, most_functions, most_definitions, declared, slot, slot_at, behind}
+use Rattle.cash_base.specs.Source.{text_at}
 use Rattle.cash_names.specs.Wants.{is_admitted, is_new, is_variable, has_function}
 use Rattle.cash_names.specs.Expressions.{Expression, NamedExpr, wants_of, with_slots}
 use Rattle.cash_names.specs.Outline.{Outline, Scopes, Statement, NamedStmt, NamedStmtKind, FunctionTree, NamedFunction, Tree, NamedTree, run, block, other, with_variable, slotted, is_without, param_outline, stmt_kind_outline, stmt_outline, outline_of, function_outline, outline_of_tree}

@@ -1,15 +1,12 @@
 -- The names in scope at a place of the text.
-use Rattle.std.specs.Prelude.{ℕ, ◌+◌, ◌-◌, Bool, nat_lt, if◌then◌else◌, List, [], ◌∷◌, ◌++◌, map, take, drop, Option, None, Some}
+use Rattle.std.specs.Prelude.{ℕ, ◌+◌, Bool, nat_lt, if◌then◌else◌, List, [], ◌∷◌, ◌++◌, map, take, Option, None, Some}
 use Rattle.std.specs.Borrow.{Bor}
 use Rattle.std.specs.Str.{bytes_eq}
 use Rattle.cash_base.specs.declared.place.Span.{Span}
 use Rattle.cash_base.specs.declared.place.Slot.{Slot}
 use Rattle.cash_names.specs.declared.scope.Variable.{Variable}
 use Rattle.cash_names.specs.declared.scope.Scope.{Scope}
-
--- the text of a source at a span; of a span that reaches past the source, what there is of it
-abbrev pub text_at : List ℕ → Span → List ℕ
-text_at source span = take (span.to - span.from) (drop span.from source)
+use Rattle.cash_base.specs.Source.{text_at}
 
 -- a name in scope, by its spelling
 abbrev pub Entry : Type 0

@@ -12,7 +12,8 @@ use Rattle.cash_tree.specs.declared.StmtKind.{StmtKind}
 use Rattle.cash_tree.specs.declared.StmtKind.TheVariants as nodes
 use Rattle.cash_tree.specs.declared.StmtKind.TheOpen.{StmtKind-F, Stmt-F}
 use Rattle.cash_tree.specs.declared.StmtKind.TheFolds.{fold-Stmt}
-use Rattle.cash_names.specs.Names.{Names, no_names, text_at, opened, most_params, most_functions, most_definitions, slot, slot_at, declared, behind}
+use Rattle.cash_names.specs.Names.{Names, no_names, opened, most_params, most_functions, most_definitions, slot, slot_at, declared, behind}
+use Rattle.cash_base.specs.Source.{text_at}
 use Rattle.cash_names.specs.Wants.{Want, is_admitted, is_new, is_variable, has_function}
 use Rattle.cash_names.specs.Expressions.{wants_of, with_slots}
 

@@ -6,7 +6,7 @@ use Rattle.cash_tree.specs.declared.Constraint.{Constraint}
 use Rattle.semver.specs.declared.error.Error.{Error}
 use Rattle.semver.specs.Parse.{Parts, Held, req_of}
 use Rattle.semver.specs.EvalViews.{matches_views}
-use Rattle.cash_names.specs.Names.{text_at}
+use Rattle.cash_base.specs.Source.{text_at}
 
 -- the version of the language, 0.7.0
 abbrev pub language : Parts

@@ -16,7 +16,8 @@ use Rattle.cash_tree.specs.declared.StmtKind.TheOpen.{StmtKind-F, Stmt-F}
 use Rattle.cash_tree.specs.declared.StmtKind.TheFolds.{fold-Stmt, fold-StmtKind}
 use Rattle.cash_names.specs.declared.fault.NameFault.{NameFault}
 use Rattle.cash_names.specs.declared.fault.NameFault.TheVariants.{UnknownName}
-use Rattle.cash_names.specs.Names.{Names, no_names, text_at, opened, most_params, most_functions, most_definitions, slot, slot_at, declared, behind}
+use Rattle.cash_names.specs.Names.{Names, no_names, opened, most_params, most_functions, most_definitions, slot, slot_at, declared, behind}
+use Rattle.cash_base.specs.Source.{text_at}
 use Rattle.cash_names.specs.Wants.{Want, is_admitted, is_new, is_known, is_variable, has_function, refusal, first_refused, granted}
 use Rattle.cash_names.specs.Expressions.{Expression, Kind, NamedExpr, NamedKind}
 use Rattle.cash_names.specs.Outline.{Statement, NamedStmt, NamedStmtKind, FunctionTree, NamedFunction, Tree, NamedTree, with_variable, slotted, is_without}

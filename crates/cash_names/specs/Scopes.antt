@@ -11,7 +11,8 @@ use Rattle.cash_tree.specs.declared.Stmt.{Stmt}
 use Rattle.cash_tree.specs.declared.StmtKind.{StmtKind}
 use Rattle.cash_tree.specs.declared.StmtKind.TheVariants as nodes
 use Rattle.cash_names.specs.declared.fault.NameFault.{NameFault}
-use Rattle.cash_names.specs.Names.{Names, no_names, text_at, opened, most_params, most_functions, most_definitions, slot, slot_at, declared, behind}
+use Rattle.cash_names.specs.Names.{Names, no_names, opened, most_params, most_functions, most_definitions, slot, slot_at, declared, behind}
+use Rattle.cash_base.specs.Source.{text_at}
 use Rattle.cash_names.specs.Wants.{is_admitted, is_new, is_variable, IsGranted, AreGranted, first_refused}
 use Rattle.cash_names.specs.Expressions.{Expression, NamedExpr, wants_of, with_slots}
 use Rattle.cash_names.specs.Outline.{Statement, NamedStmt, FunctionTree, NamedFunction, Tree, NamedTree, with_variable, slotted, outline_of_tree}

@@ -5,7 +5,8 @@ use Rattle.cash_tree.specs.declared.Constraint.{Constraint}
 use Rattle.cash_names.specs.declared.scope.Variable.{Variable}
 use Rattle.cash_names.specs.declared.fault.NameFault.{NameFault}
 use Rattle.cash_names.specs.declared.fault.NameFault.TheVariants.{PragmaRefused, UnknownName, Redeclared, AssignToConstant, TooManyNames, NoFunction, Memory}
-use Rattle.cash_names.specs.Names.{Names, look, has_room, text_at}
+use Rattle.cash_names.specs.Names.{Names, look, has_room}
+use Rattle.cash_base.specs.Source.{text_at}
 use Rattle.cash_names.specs.Pragmas.{constraint_text, admits}
 
 -- a place in the text, with the names that are in scope there

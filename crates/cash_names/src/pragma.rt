@@ -7,8 +7,7 @@ ghost use Rattle.cash_names.specs.Pragmas;
 ghost use Rattle.cash_names.specs.Wants.{Gives, first_refused, granted, is_admitted, refusal};
 
 use crate::fault::NameFault;
-use crate::scope::text_at;
-use cash_base::Span;
+use cash_base::{Span, text_at};
 use cash_tree::Constraint;
 use semver::{Version, VersionReq};
 use std::alloc::{AllocError, Global};

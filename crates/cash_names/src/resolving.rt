@@ -138,7 +138,7 @@ fn resolve_tree(alloc: Global, source: &[u8], tree: &Tree) -> Result<NamedTree, 
     })
 }
 
-/// The tree of a contract with a slot for each name, by the rules of CashScript 0.7.
+/// The tree of a contract with a slot for each name.
 ///
 /// A name's text is the slice of the source at its span; of a span that reaches past the source, what there is of it.
 /// Spans, places, types and the shape of the tree stay. Names of functions, of built-in functions and of variables are

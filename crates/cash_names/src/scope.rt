@@ -6,7 +6,7 @@ ghost use Rattle.cash_names.specs.Names;
 ghost use Rattle.cash_names.specs.Names.{names_of, look, declared};
 
 use crate::fault::NameFault;
-use cash_base::{Slot, Span};
+use cash_base::Slot;
 use indexmap::IndexMap;
 use std::alloc::Global;
 
@@ -102,13 +102,4 @@ impl<'s> Scope<'s> {
         self.next = next;
         self.limit = next + room;
     }
-}
-
-/// The text of a source at a span.
-pub fn text_at(source: &[u8], span: Span) -> &[u8]
-    ensures { result.now ≡ Names.text_at source.now span }
-{
-    let rest = source.get(span.from as usize..).unwrap_or(&[]);
-    let len = span.to.saturating_sub(span.from) as usize;
-    rest.get(..len).unwrap_or(rest)
 }

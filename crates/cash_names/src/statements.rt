@@ -8,9 +8,9 @@ ghost use Rattle.cash_names.specs.Reading.{reading_of_stmt, reading_of_stmt_kind
 
 use crate::expressions::resolve_expr;
 use crate::fault::NameFault;
-use crate::scope::{Scope, text_at};
+use crate::scope::Scope;
 use crate::uses::{fresh, fresh_pair, variable};
-use cash_base::{Slot, Span};
+use cash_base::{Slot, Span, text_at};
 use cash_tree::{Expr, Param, Stmt, StmtKind};
 use sqlite_items::Items;
 use std::alloc::Global;

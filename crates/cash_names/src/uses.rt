@@ -8,8 +8,8 @@ ghost use Rattle.cash_names.specs.Reading.{check, check_two, introduction};
 ghost use Rattle.cash_names.specs.Outline.{with_variable};
 
 use crate::fault::NameFault;
-use crate::scope::{Scope, text_at};
-use cash_base::{Slot, Span};
+use crate::scope::Scope;
+use cash_base::{Slot, Span, text_at};
 
 /// The slot of a name that is read.
 pub fn known(source: &[u8], scope: &Scope, span: Span) -> Result<Slot, NameFault>

@@ -1,10 +1,11 @@
 -- What is spelled as a contract is read; all of the lexemes are read, so a list spells at most one tree.
-use Rattle.std.proofs.Common.{◌≡◌, ℕ, ◌==◌, Bool, true, false, List, [], ◌∷◌, ◌++◌, length, Some, None, refl, sym, ap, subst, ◌∙◌, append_assoc, codes}
+use Rattle.std.proofs.Common.{◌≡◌, ℕ, ◌==◌, Bool, true, false, List, [], ◌∷◌, ◌++◌, length, Option, Some, None, ◌⊎◌, inl, inr, refl, sym, ap, subst, ◌∙◌, append_assoc, codes}
 use Rattle.std.proofs.lemmas.Bool.{eqb-true, false≢true}
 use Rattle.std.proofs.lemmas.List.{append-nil, nil_from_length}
 use Rattle.cash_base.specs.declared.place.Span.{Span}
 use Rattle.cash_tree.specs.declared.Param.{Param}
 use Rattle.cash_tree.specs.declared.Constraint.{Constraint}
+use Rattle.cash_parser.specs.Answer.{IsNone}
 use Rattle.cash_parser.specs.Words.{is_text, is_constraint_sign}
 use Rattle.cash_parser.specs.Lexemes.{Lexeme, Type_, Name}
 use Rattle.cash_parser.specs.Grammar.{lex, mark}
@@ -134,3 +135,10 @@ tree_none ts q tree d = let again = tree_again ts tree d in absurd cc
 
 pub one_tree_is : (ts : List Lexeme) (a b : Tree) → SpellsFile ts a → SpellsFile ts b → a ≡ b
 one_tree_is ts a b d d' = some_is (sym (tree_again ts a d) ∙ tree_again ts b d')
+
+by_reading : (ts : List Lexeme) (read : Option Tree) → tree_of ts ≡ read → ((tree : Tree) × SpellsFile ts tree) ⊎ IsNone ts
+by_reading ts (Some tree) is = inl (tree, tree_found ts tree is)
+by_reading ts None is = inr (tree_none ts is)
+
+pub tree_or_none : (ts : List Lexeme) → ((tree : Tree) × SpellsFile ts tree) ⊎ IsNone ts
+tree_or_none ts = by_reading ts (tree_of ts) refl

@@ -8,6 +8,7 @@ use Rattle.cash_tree.specs.declared.TokenKind.TheVariants as kinds
 use Rattle.hex.specs.Hex.{decode_of}
 use Rattle.hex.specs.declared.error.FromHexError.{FromHexError}
 use Rattle.cash_parser.specs.Words.{type_of, is_keyword}
+use Rattle.cash_base.specs.Source.{text_at}
 
 pub data Symbol : Type 0 where
   -- a sign, or a reserved word that names no type
@@ -62,10 +63,6 @@ symbol_of kinds.Text text = Text (unescaped (between_quotes text))
 symbol_of (kinds.Date n) text = Date n
 symbol_of kinds.Version text = Version
 symbol_of kinds.Sign text = Mark text
-
--- the text of a source at a span
-abbrev pub text_at : List ℕ → Span → List ℕ
-text_at source span = take (span.to - span.from) (drop span.from source)
 
 unfoldable pub symbol_at : List ℕ → Token → Symbol
 symbol_at source token = symbol_of token.kind (text_at source token.span)

@@ -1,4 +1,5 @@
--- The words and signs of the grammar, as tables of texts. The source of the rules is the CashScript 0.7 grammar.
+-- The words and signs of the grammar, as tables of texts. The source of the rules is the CashScript 0.7 grammar. This project's
+-- own are the values of units, `byte` as another spelling of `bytes1`, the limit of 520 bytes of a type, and `constant`.
 use Rattle.std.specs.Prelude.{ℕ, ◌+◌, ◌*◌, ◌-◌, nat_eq, nat_le, Bool, ◌&&◌, List, [], ◌∷◌, drop, Option, Some, None, codes, if◌then◌else◌}
 use Rattle.std.specs.List.{list_any, starts_with}
 use Rattle.std.specs.Str.{bytes_eq}

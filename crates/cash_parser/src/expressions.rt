@@ -11,7 +11,7 @@ ghost use Rattle.cash_parser.specs.Reading.{Gives, part, suffixes_of, reading, l
 
 use crate::fault::Stop;
 use crate::front::{
-    across, active, eat, expect, member, name, number, operator, prefix, property, suffix, text_at,
+    across, active, eat, expect, member, name, number, operator, prefix, property, suffix,
     type_word, unit,
 };
 use crate::literals::{hex_bytes, text_bytes};
@@ -20,7 +20,7 @@ use crate::nodes::{
     reverse_of, split_of, unary_of,
 };
 use crate::words::{Property, Side, Suffix, count_of, function_of, instantiation_of, is_text};
-use cash_base::Span;
+use cash_base::{Span, text_at};
 use cash_tree::{Token, TokenKind, Ty};
 use sqlite_items::Items;
 use std::alloc::Global;

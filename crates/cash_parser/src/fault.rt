@@ -30,7 +30,8 @@ pub enum DepthRule {
     Branches,
 }
 
-/// Why a part of the tokens could not be read: where the grammar wants another token, as many are left.
+/// Why a part of the tokens could not be read: where the grammar wants another token, as many are left. The values of a
+/// cast are counted behind its `)`, so there as many are left.
 #[derive(Clone, Copy, Debug, PartialEq, Eq)]
 pub enum Stop {
     Syntax { left: usize },

@@ -1,7 +1,6 @@
 //! What stands in front of the tokens.
 
 ghost use Rattle.std.specs.Prelude.{◌≡◌, option_map};
-ghost use Rattle.cash_parser.specs.Lexemes;
 ghost use Rattle.cash_parser.specs.Lexemes.{lexemes, symbol_at};
 ghost use Rattle.cash_parser.specs.Grammar;
 ghost use Rattle.cash_parser.specs.Grammar.{name_value};
@@ -11,17 +10,8 @@ ghost use Rattle.cash_parser.specs.Reading.{Gives, eaten, taken};
 
 use crate::fault::Stop;
 use crate::words::{self, Property, Side, Suffix};
-use cash_base::{Look0, LookAt, Span};
+use cash_base::{Look0, LookAt, Span, text_at};
 use cash_tree::{BinaryOp, Token, TokenKind, Ty, UnaryOp};
-
-/// The text of a source at a span.
-pub fn text_at(source: &[u8], span: Span) -> &[u8]
-    ensures { result.now ≡ Lexemes.text_at source.now span }
-{
-    let rest = source.get(span.from as usize..).unwrap_or(&[]);
-    let len = span.to.saturating_sub(span.from) as usize;
-    rest.get(..len).unwrap_or(rest)
-}
 
 /// The text of a token that is a sign, or a reserved word that names no type.
 #[tactic(auto, unfolding(crate::specs::Lexemes::symbol_at))]

@@ -1,6 +1,6 @@
 //! The tree of the tokens of a source.
 
-ghost use Rattle.std.specs.Prelude.{◌≡◌, ◌≤◌, List, length, IfOk};
+ghost use Rattle.std.specs.Prelude.{◌≡◌, ◌≤◌, ◌⊎◌, List, length, IfOk};
 ghost use Rattle.cash_parser.specs.Lexemes.{Lexeme, lexemes};
 ghost use Rattle.cash_parser.specs.DepthRules;
 ghost use Rattle.cash_parser.specs.Files.{Tree as Spelled, SpellsFile};
@@ -64,7 +64,8 @@ pub fn parse(alloc: Global, source: &str, tokens: &[Token]) -> Result<Tree, Pars
     }
 }
 
-/// A list of tokens with their texts spells at most one tree.
+/// A list of tokens with their texts spells one tree or none.
 pub fn one_tree()
-    ensures { (ts : List Lexeme) (a b : Spelled) → SpellsFile ts a → SpellsFile ts b → a ≡ b }
+    ensures one { (ts : List Lexeme) (a b : Spelled) → SpellsFile ts a → SpellsFile ts b → a ≡ b }
+    ensures either { (ts : List Lexeme) → ((tree : Spelled) × SpellsFile ts tree) ⊎ IsNone ts }
 {}

@@ -1,4 +1,5 @@
-// Sources beside what an independent reading of the grammar shows of their tree, or of the fault.
+// Sources beside what an independent reading of the grammar shows of their tree, or of the fault. A cast of another number
+// of values than one or two stops behind its `)`.
 
 use crate::{DepthRule, ParseFault, parse};
 use cash_base::Span;

@@ -18,7 +18,7 @@ pub enum TokenKind {
     Word,
     /// A number, with its value.
     Number(u128),
-    /// `0x` and hexadecimal digits.
+    /// `0x` or `0X`, and hexadecimal digits.
     Hex,
     /// A text between quotes.
     Text,

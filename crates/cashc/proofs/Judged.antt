@@ -13,7 +13,7 @@ use Rattle.cash_base.specs.declared.place.Span.{Span}
 use Rattle.cash_tree.specs.declared.Ty.{Ty}
 use Rattle.cash_tree.specs.declared.Contract.{Contract}
 use Rattle.cash_tree.specs.declared.Function.{Function}
-use Rattle.cash_parser.specs.Lexemes.{text_at}
+use Rattle.cash_base.specs.Source.{text_at}
 use Rattle.source_meaning.specs.declared.outcome.SourceOutcome.{SourceOutcome}
 use Rattle.source_meaning.specs.declared.outcome.SourceOutcome.TheVariants.{Met, Failed}
 use Rattle.source_meaning.specs.Meaning.{source_outcome}
@@ -38,67 +38,15 @@ use Rattle.spend_debug.specs.declared.spends.SpendStop.TheVariants.{Build}
 use Rattle.spend_debug.specs.declared.report.InputStop.{InputStop}
 use Rattle.spend_debug.specs.declared.report.InputStop.TheVariants as stops
 use Rattle.spend_debug.specs.SpendLines.{spend_elements}
-use Rattle.spend_debug.specs.SpendDebug.{SpendParts, plain_frame, or_stop, built_scripts, outcome_of, told_of}
-use Rattle.spend_debug.specs.Telling.{Told, told_place, placed_name, cause_name, verdict_line, failure_line, build_stop}
+use Rattle.spend_debug.specs.SpendDebug.{SpendParts, plain_frame, or_stop, built_scripts, outcome_of, told_of, AreOfCall}
+use Rattle.spend_debug.specs.Telling.{Told, told_place, placed_name, cause_name, verdict_line, failure_line, report_lines, build_stop}
 use Rattle.cash_compile.specs.Describes.{described_function}
 use Rattle.cash_compile.specs.Compile.{IsCompiled}
 use Rattle.cash_compile.specs.Correct.{Admits, IsSameCause, Agrees, IsCorrect}
 use Rattle.cashc.specs.declared.commands.Stop.{Stop}
 use Rattle.cashc.specs.declared.commands.Stop.TheVariants as stopped
 use Rattle.cashc.specs.TopCall.{plain_spend, IsVerdict, IsJudged, IsCountStop, report}
-use Rattle.cashc.specs.Answering.{HasInputCause, HasScriptsCause, HasSpendCause, outcome_status, report_status, placed_report}
-
--- ---- scripts that are built
-
-abbrev Scripts : Type 0
-Scripts = List ℕ × List ℕ
-
-abbrev counted : Result (Unit {0}) BuildFault
-counted = Ok tt
-
-by_redeem : (t u : Bool) (s : List ℕ) (miscounted long : BuildFault) (then_ : List ℕ → Result Scripts SpendStop) (built : Scripts)
-    → (or_stop (cond t counted (Err miscounted) >>= λ c. cond u (Ok s) (Err long)) >>= then_) ≡ Ok built
-    → (t ≡ true) × (u ≡ true) × (then_ s ≡ Ok built)
-by_redeem true true s miscounted long then_ built is = (refl, refl, is)
-by_redeem true false s miscounted long then_ built is = absurd cc
-by_redeem false u s miscounted long then_ built is = absurd cc
-
-by_args : (t : Bool) (s redeem : List ℕ) (miscounted : BuildFault) (built : Scripts)
-    → (or_stop (cond t counted (Err miscounted) >>= λ c. Ok s) >>= λ unlocking. Ok (redeem, unlocking)) ≡ Ok built → t ≡ true
-by_args true s redeem miscounted built is = refl
-by_args false s redeem miscounted built is = absurd cc
-
-by_function : (found : Option AbiCall) (args : List (List ℕ)) (s redeem : List ℕ) (built : Scripts)
-    → (or_stop (chosen_function found >>= λ function. count_check (length function.inputs) (length args) >>= λ counted. Ok s) >>= λ unlocking. Ok (redeem, unlocking)) ≡ Ok built
-    → (function : AbiCall) × (found ≡ Some function) × (length function.inputs ≡ length args)
-by_function (Some function) args s redeem built is = (
-  function,
-  refl,
-  eqb-true (length function.inputs) (length args)
-      (by_args (length function.inputs == length args) s redeem (WrongCount (capped (length function.inputs)) (capped (length args))) built is),
-)
-by_function None args s redeem built is = absurd cc
-
--- the redeem script can be pushed, and there is a function with as many parameters as there are arguments
-record Fits (program : Artifact) (args : List (List ℕ)) : Type 0 where
-  pub size : length (redeem_script program.code []) ≤ 520
-  pub function : AbiCall
-  pub found : slice_get program.abi 0 ≡ Some function
-  pub arg_count : length function.inputs ≡ length args
-
-fits : (program : Artifact) (args : List (List ℕ)) (built : Scripts) → built_scripts program (plain_spend args) ≡ Ok built → Fits program args
-fits program args built is =
-    let redeem = redeem_script program.code [] in
-    let parts = by_redeem (length program.ctor == 0) (nat_le (length redeem) 520) redeem (WrongCount (capped (length program.ctor)) (capped 0))
-    (RedeemTooLong (capped (length redeem)))
-    (λ r. or_stop (built_unlocking program 0 args r) >>= λ unlocking. Ok (r, unlocking)) built is in
-    let called = by_function (slice_get program.abi 0) args (spending_script (length program.abi) 0 args redeem) redeem built parts.2 in
-    record {
-      size = leb-true (length redeem) 520 parts.1;
-      function = called.0;
-      found = called.1;
-      arg_count = called.2;
-    }
+use Rattle.cashc.specs.Answering.{HasInputCause, HasScriptsCause, HasSpendCause, outcome_status, report_status}
 
 -- ---- the program beside its contract
 
@@ -110,23 +58,28 @@ abi_is : (source : List ℕ) (contract : Contract Slot Ty) (program : Artifact) 
 abi_is source contract program h = h.describes.abi ∙ ap (map (described_function (text_at source))) h.decides.only
 
 -- what a correct program asks for is what its contract does
-pub admitted : (source : List ℕ) (contract : Contract Slot Ty) (program : Artifact) (h : IsCorrect source contract program) (args : List (List ℕ)) (built : Scripts)
-    → built_scripts program (plain_spend args) ≡ Ok built → AllByRecursion IsElement args
+pub admitted : (source : List ℕ) (contract : Contract Slot Ty) (program : Artifact) (h : IsCorrect source contract program) (args : List (List ℕ)) (redeem unlocking : List ℕ)
+    → AreOfCall program (plain_spend args) redeem unlocking → AllByRecursion IsElement args
     → Admits contract program.code [] 0 h.decides.function args
-admitted source contract program h args built is elements =
+admitted source contract program h args redeem unlocking call elements =
     let f = h.decides.function in
-    let fit = fits program args built is in
-    let same = same_call (described_function (text_at source) f) fit.function program.abi (abi_is source contract program h) fit.found in
+    let same = same_call (described_function (text_at source) f) call.function program.abi (abi_is source contract program h) call.found in
     record {
       ctor_count = sym (ap length h.decides.alone);
       found = ap (λ (fs : List (Function Slot Ty)). slice_get fs 0) h.decides.only;
-      arg_count = sym fit.arg_count ∙ ap (λ (c : AbiCall). length c.inputs) (sym same) ∙ length-map f.params _;
+      arg_count = sym call.arg_count ∙ ap (λ (c : AbiCall). length c.inputs) (sym same) ∙ length-map f.params _;
       ctor_elements = tt;
       arg_elements = elements;
-      size = fit.size;
+      size = subst (λ (s : List ℕ). length s ≤ 520) call.redeem_is call.size;
     }
 
 -- ---- why no scripts are built
+
+abbrev Scripts : Type 0
+Scripts = List ℕ × List ℕ
+
+abbrev counted : Result (Unit {0}) BuildFault
+counted = Ok tt
 
 past_redeem : (t u : Bool) (s : List ℕ) (miscounted long : BuildFault) (then_ : List ℕ → Result Scripts SpendStop) → t ≡ true → u ≡ true
     → (or_stop (cond t counted (Err miscounted) >>= λ c. cond u (Ok s) (Err long)) >>= then_) ≡ then_ s
@@ -240,15 +193,19 @@ abbrev outcome_with : Artifact → List (List ℕ) → ℕ → MachineOutcome
 outcome_with program args functions =
     spend_outcome (filled_context plain_frame (locking_script (redeem_script program.code [])) (unlocking_of program args functions)) []
 
-pub told : (law : FailureLaw) (source : List ℕ) (contract : Contract Slot Ty) (program : Artifact) (h : IsCorrect source contract program)
-    (spend : List ℕ) (args : List (List ℕ)) (built : Scripts) → spend_elements spend ≡ Ok args → AllByRecursion IsElement args
-    → IsFrame plain_frame → IsTable [] → built_scripts program (plain_spend args) ≡ Ok built
+-- the law of scripts that are built
+abbrev pub BuiltLaw : Type 0
+BuiltLaw = (program : Artifact) (spend : SpendParts) (redeem unlocking : List ℕ) → built_scripts program spend ≡ Ok (redeem, unlocking) → AreOfCall program spend redeem unlocking
+
+pub told : (law : FailureLaw) (built_law : BuiltLaw) (source : List ℕ) (contract : Contract Slot Ty) (program : Artifact) (h : IsCorrect source contract program)
+    (spend : List ℕ) (args : List (List ℕ)) (redeem unlocking : List ℕ) → spend_elements spend ≡ Ok args → AllByRecursion IsElement args
+    → IsFrame plain_frame → IsTable [] → built_scripts program (plain_spend args) ≡ Ok (redeem, unlocking)
     → (t : Told) → t ≡ told_of program (plain_spend args)
-    → IsJudged source contract program spend (report_status t) (placed_report source t)
-told law source contract program h spend args built read elements frame table is t same =
+    → IsJudged source contract program spend (report_status t) (report_lines source t)
+told law built_law source contract program h spend args redeem unlocking read elements frame table is t same =
     let f = h.decides.function in
     let run = source_outcome contract [] f args in
-    let fit = admitted source contract program h args built is elements in
+    let fit = admitted source contract program h args redeem unlocking (built_law program (plain_spend args) redeem unlocking is) elements in
     let count : length program.abi ≡ length contract.functions = ap length h.describes.abi ∙ length-map contract.functions _ in
     let agrees : Agrees h.rows 0 (outcome_with program args (length program.abi)) run =
     subst (λ (n : ℕ). Agrees h.rows 0 (outcome_with program args n) run) (sym count) (h.agrees [] 0 f args plain_frame [] fit frame table) in
@@ -256,7 +213,7 @@ told law source contract program h spend args built read elements frame table is
     let line = verdict_line whole.outcome (told_place source whole.place) in
     let verdict = verdict_told source h.rows run (outcome_with program args (length program.abi)) whole.place agrees
     (λ at cause span fault refused placed name. law program (plain_spend args) h.rows at cause span fault source h.describes.placed refused placed name) in
-    subst (λ (u : Told). IsJudged source contract program spend (report_status u) (placed_report source u)) (sym same) (record {
+    subst (λ (u : Told). IsJudged source contract program spend (report_status u) (report_lines source u)) (sym same) (record {
       args = args;
       read = read;
       function = f;

@@ -11,7 +11,7 @@ use Rattle.unlocker.specs.declared.BuildFault.{BuildFault}
 use Rattle.spend_debug.specs.declared.spends.SpendStop.TheVariants.{Build}
 use Rattle.spend_debug.specs.SpendDebug.{built_scripts}
 use Rattle.spend_debug.specs.declared.report.InputStop.{InputStop}
-use Rattle.spend_debug.specs.Telling.{Told, told_place, report_lines, build_stop, input_line}
+use Rattle.spend_debug.specs.Telling.{Told, build_stop, input_line}
 use Rattle.cash_compile.specs.declared.refusal.Refusal.{Refusal}
 use Rattle.cash_compile.specs.Compile.{IsRefused}
 use Rattle.cashc.specs.declared.commands.Command.{Command as Named}
@@ -85,7 +85,3 @@ outcome_status (machine.Refused script at cause) = 3
 
 abbrev pub report_status : Told → ℕ
 report_status told = outcome_status told.outcome
-
--- its lines, with the line and the column of its place
-abbrev pub placed_report : List ℕ → Told → List ℕ
-placed_report source told = report_lines told (told_place source told.place)

@@ -5,10 +5,11 @@ ghost use Rattle.hex.specs.Hex.{encode_lower};
 ghost use Rattle.artifact_json.specs.Artifact.{HasFewInputs};
 ghost use Rattle.spend_debug.specs.SpendLines.{spend_elements};
 ghost use Rattle.spend_debug.specs.SpendDebug.{built_scripts, told_of};
+ghost use Rattle.spend_debug.specs.Telling.{report_lines};
 ghost use Rattle.cash_compile.specs.Compile.{max_source_len, IsCompiled};
 ghost use Rattle.cashc.specs.TopCall;
 ghost use Rattle.cashc.specs.TopCall.{IsFile, IsShownFor, IsLine, IsReport, IsJudged};
-ghost use Rattle.cashc.specs.Answering.{seen, IsSaid, HasFileCause, HasSourceCause, HasInputCause, HasLinesCause, HasScriptsCause, HasSpendCause, HasCause, report_status, placed_report};
+ghost use Rattle.cashc.specs.Answering.{seen, IsSaid, HasFileCause, HasSourceCause, HasInputCause, HasLinesCause, HasScriptsCause, HasSpendCause, HasCause, report_status};
 ghost use Rattle.cashc.specs.declared.commands.Stop.TheVariants.{Memory as WithoutMemory};
 
 use crate::refusal_text::{SOURCE_TOO_LONG, refusal_text};
@@ -19,10 +20,10 @@ use cash_compile::compile::{Compiled, compile};
 use cash_compile::{MAX_SOURCE_LEN, Refusal};
 use script_codec::encode;
 use spend_debug::spend_lines::read_elements_are_few;
-use spend_debug::spends::told_as_a_failure;
+use spend_debug::spends::{built_scripts_are_of_a_call, told_as_a_failure};
 use spend_debug::{
     InputStop, Report, Spend, SpendStop, build_stop, debug, input_text, line_stop, plain_frame,
-    report_text, spend_lines, told_place,
+    report_text, spend_lines,
 };
 use std::alloc::{AllocError, Global};
 use tx_context::Verdicts;
@@ -200,6 +201,7 @@ fn judged(alloc: Global, source: &[u8], compiled: &Compiled, spend: &[u8]) -> Re
     ensures said { IfErr result (λ stop. IsSaid stop) }
 {
     read_elements_are_few();
+    built_scripts_are_of_a_call();
     told_as_a_failure();
     let args = arguments(alloc, spend)?;
     let report = report_of(alloc, &compiled.program, args)?;
@@ -272,11 +274,11 @@ fn plain_spend(alloc: Global, args: Vec<Element>) -> Result<Spend, Memory>
 fn report_answer(alloc: Global, source: &[u8], report: &Report) -> Result<Output, Stop>
     requires { length source.now ≤ max_source_len }
     ensures report { IfOk result (λ output. (output.status ≡ report_status report.now)
-        × (output.text.items ≡ placed_report source.now report.now)) }
+        × (output.text.items ≡ report_lines source.now report.now)) }
     ensures some { IfOk result (λ output. output.text.items ≢ []) }
     ensures stopped { IfErr result (λ stop. stop ≡ WithoutMemory) }
 {
-    let text = report_text(alloc, report, told_place(source, report.place))?;
+    let text = report_text(alloc, source, report)?;
     let status = match report.outcome {
         MachineOutcome::Accepted => 0,
         MachineOutcome::Refused { .. } => 3,

@@ -209,6 +209,7 @@ code|pragma cashscript 0.7.0; contract S() { function f(int x, int y) { require(
 refused 1:19 PragmaRefused|pragma cashscript 0.7.1; contract S() { function f(int x, int y) { require(x == y); } }
 refused 1:19 PragmaRefused|pragma cashscript ^0.6.0; contract Eq(int a) { function f(int b) { require(a == b); } }
 refused 1:16 NoFinalRequire|contract S() { function f() {} }
+refused 1:16 NoFinalRequire|contract U() { function f(int z) { require(z == 1); z = 2; } }
 refused 1:16 NoFinalRequire|contract S() { function f(int x) { if (x == 1) { require(x == 1); } else { x = 1; } } }
 refused 1:31 Mismatch wanted bool found int|contract U() { function f() { require(1); } }
 refused 1:36 Mismatch wanted bool found int|contract S() { function f(int x) { require(x); } }

@@ -1,4 +1,4 @@
--- How many opcodes of a script count against the limit, as the Bitcoin Cash specification has it.
+-- A count of a script's opcodes that is read off its bytes, whatever a run would execute.
 use Rattle.std.specs.Prelude.{ℕ, ◌+◌, ◌==◌, ◌||◌, Bool, nat_lt, nat_le, if◌then◌else◌, List, [], ◌∷◌, ℤ, pos, negsuc, Option, Some, None}
 use Rattle.cash_base.specs.Number.{number_of}
 use Rattle.script_codec.specs.declared.instr.Instr.{Instr}

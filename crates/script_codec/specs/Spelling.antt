@@ -4,7 +4,7 @@ use Rattle.std.specs.List.{list_all, flat_map}
 use Rattle.script_codec.specs.declared.instr.Instr.{Instr}
 use Rattle.script_codec.specs.declared.instr.Instr.TheVariants.{Push, Do}
 
--- an opcode is above 0x60: a byte up to that spells a push
+-- an opcode is above 0x60: the bytes up to that push, but for 0x50, which is reserved
 abbrev pub is_instruction : Instr → Bool
 is_instruction (Push e) = true
 is_instruction (Do opcode) = nat_lt 0x60 opcode.0

@@ -1,4 +1,4 @@
-//! How many opcodes of a script count against the machine's limit.
+//! A count of a script's opcodes that is read off its bytes, whatever a run would execute.
 
 ghost use Rattle.std.specs.Prelude.{◌≡◌, ◌≤◌, length};
 ghost use Rattle.script_codec.specs.Reading;
@@ -17,7 +17,8 @@ const MOST_KEYS: i64 = 20;
 /// The number of opcodes above 60 (hexadecimal) up to the end of a script or its first push that is cut off, and for
 /// each CHECKMULTISIG and CHECKMULTISIGVERIFY directly behind a minimal push of a number from 0 to 20 that number.
 ///
-/// It takes no memory. Source: the Bitcoin Cash specification, on the limit of operations in a script.
+/// It takes no memory. The count is this project's own; the limit of operations in a script of the Bitcoin Cash
+/// specification adds keys only where such a check is executed, however their number came to the stack.
 pub fn counted(script: &[u8]) -> u32
     requires { length script.now ≤ 10000 }
     ensures { result ≡ counted_in (reading script.now) }

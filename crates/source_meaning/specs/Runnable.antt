@@ -2,7 +2,9 @@
 use Rattle.std.specs.Prelude.{◌≡◌, ℕ, ◌+◌, ◌*◌, ◌^◌, ◌≤◌, Bool, true, false, ◌&&◌, nat_lt, List, [], ◌∷◌, length, slice_get, slice_index_or, Some, Result, Ok, Err, IsTrue, All}
 use Rattle.cash_base.specs.declared.place.Slot.{Slot}
 use Rattle.cash_base.specs.declared.place.Span.{Span}
+use Rattle.std.specs.List.{list_all}
 use Rattle.cash_tree.specs.declared.Ty.{Ty}
+use Rattle.cash_tree.specs.declared.Ty.TheVariants as types
 use Rattle.cash_tree.specs.declared.Param.{Param}
 use Rattle.cash_tree.specs.declared.Contract.{Contract}
 use Rattle.cash_tree.specs.declared.Function.{Function}
@@ -75,14 +77,24 @@ abbrev pub HaveSlotsFrom : ℕ → List (Param Slot) → Type 0
 HaveSlotsFrom n [] = Unit {0}
 HaveSlotsFrom n (param ∷ params) = (param.name.0 ≡ n) × HaveSlotsFrom (n + 1) params
 
--- The contract has a function at this place. The constructor and the function have so many parameters, whose slots
--- are numbered in order, and each statement of the body can be run.
+abbrev pub is_int : Ty → Bool
+is_int types.Int = true
+is_int _ = false
+
+-- each parameter is an int: `==` compares numbers, and values of other types have no meaning yet
+abbrev pub are_ints : List (Param Slot) → Bool
+are_ints params = list_all (λ (param : Param Slot). is_int param.ty) params
+
+-- The contract has a function at this place. The constructor and the function have so many parameters, each an int, whose
+-- slots are numbered in order, and each statement of the body can be run.
 pub record CanRun (contract : Contract Slot Ty) (ctor place args : ℕ) : Type 0 where
   pub function : Function Slot Ty
   pub found : slice_get contract.functions place ≡ Some function
   pub ctor_count : length contract.params ≡ ctor
+  pub ctor_ints : IsTrue (are_ints contract.params)
   pub ctor_slots : HaveSlotsFrom 0 contract.params
   pub arg_count : length function.params ≡ args
+  pub arg_ints : IsTrue (are_ints function.params)
   pub arg_slots : HaveSlotsFrom ctor function.params
   pub body : All (IsRunnableStatement (ctor + args)) function.body
 

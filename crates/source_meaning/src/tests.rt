@@ -1,7 +1,7 @@
 // Runs of contracts that are built by hand.
 
 ghost use Rattle.std.specs.Prelude.{◌≡◌, ◌+◌, ◌*◌, ◌^◌, ◌≤◌, ◌<◌, length, IsTrue, IfOk};
-ghost use Rattle.source_meaning.specs.Runnable.{is_runnable, nodes, IsRunnable, HaveSlotsFrom, CanRun};
+ghost use Rattle.source_meaning.specs.Runnable.{is_int, are_ints, is_runnable, nodes, IsRunnable, HaveSlotsFrom, CanRun};
 
 use crate::{SourceOutcome, SourceRoom};
 use cash_base::{Cause, Element, Slot, Span};
@@ -87,7 +87,8 @@ fn comparison(
 
 fn param(slot: u16, from: u32) -> Param<Slot>
     requires { from < 100 }
-    ensures { result.name.0 ≡ slot }
+    ensures slot { result.name.0 ≡ slot }
+    ensures int { IsTrue (is_int result.ty) }
 {
     Param {
         ty: Ty::Int,
@@ -104,7 +105,9 @@ fn contract(
     value: Expr<Slot, Ty>,
 ) -> Result<TypedContract, AllocError>
     requires constructor { HaveSlotsFrom 0 constructor.items }
+    requires constructor_ints { IsTrue (are_ints constructor.items) }
     requires params { HaveSlotsFrom (length constructor.items) params.items }
+    requires param_ints { IsTrue (are_ints params.items) }
     requires runnable { IsRunnable (length constructor.items + length params.items) value }
     ensures { IfOk result (λ contract.
         CanRun contract (length constructor.items) 0 (length params.items)) }

@@ -1,99 +1,87 @@
 -- What it says of scripts that they were built.
 use Rattle.std.proofs.Common.{◌≡◌, ℕ, ◌≤◌, ◌+◌, ◌*◌, Bool, true, false, cond, List, [], ◌∷◌, length, zero, suc, Option, Some, None, Result, Ok, Err, refl, sym, ap, ◌∙◌, subst, arith}
-use Rattle.std.specs.Prelude.{slice_get, nat_le, ◌==◌, is_some}
+use Rattle.std.specs.Prelude.{slice_get, nat_le, ◌==◌}
 use Rattle.std.specs.List.{AllByRecursion}
-use Rattle.std.proofs.lemmas.Bool.{eqb-true, false≢true}
+use Rattle.std.proofs.lemmas.Bool.{eqb-true, leb-true}
 use Rattle.cash_base.specs.Failing.{◌>>=◌}
 use Rattle.unlocker.specs.declared.BuildFault.{BuildFault}
+use Rattle.unlocker.specs.declared.BuildFault.TheVariants.{WrongCount, RedeemTooLong}
 use Rattle.artifact_json.specs.Artifact.{Artifact, AbiCall, HasFewInputs}
-use Rattle.unlocker.specs.Scripts.{redeem_script, spending_script}
-use Rattle.unlocker.specs.Building.{capped, built_redeem, built_unlocking, chosen_function, count_check}
-use Rattle.unlocker.specs.declared.BuildFault.TheVariants.{WrongCount, NoSuchFunction}
-use Rattle.spend_debug.proofs.HexBytes.{no_ok}
-use Rattle.spend_debug.specs.SpendDebug.{SpendParts, told_with, told_of}
+use Rattle.unlocker.specs.Building.{capped, chosen_function, count_check, built_unlocking}
+use Rattle.spend_debug.specs.declared.spends.SpendStop.{SpendStop}
+use Rattle.spend_debug.specs.SpendDebug.{SpendParts, or_stop, built_scripts, redeem_of, unlocking_of, told_with, told_of, AreOfCall}
 
--- ---- the redeem script
-
-abbrev script_or : List ℕ → Result (List ℕ) BuildFault → List ℕ
-script_or other (Ok script) = script
-script_or other (Err fault) = other
-
-by_size : (t : Bool) (s script : List ℕ) (fault : BuildFault) → cond t (Ok s) (Err fault) ≡ Ok script → script ≡ s
-by_size true s script fault is = sym (ap (script_or s) is)
-by_size false s script fault is = absurd (no_ok fault script is)
+abbrev Scripts : Type 0
+Scripts = List ℕ × List ℕ
 
 -- the count is right
 abbrev counted : Result (Unit {0}) BuildFault
 counted = Ok tt
 
-by_count : (t u : Bool) (s script : List ℕ) (miscounted fault : BuildFault)
-    → (cond t counted (Err miscounted) >>= λ c. cond u (Ok s) (Err fault)) ≡ Ok script → script ≡ s
-by_count true u s script miscounted fault is = by_size u s script fault is
-by_count false u s script miscounted fault is = absurd (no_ok miscounted script is)
+-- the redeem script is built, and what comes behind it
+by_redeem : (t u : Bool) (s : List ℕ) (miscounted long : BuildFault) (then_ : List ℕ → Result Scripts SpendStop) (built : Scripts)
+    → (or_stop (cond t counted (Err miscounted) >>= λ c. cond u (Ok s) (Err long)) >>= then_) ≡ Ok built
+    → (t ≡ true) × (u ≡ true) × (then_ s ≡ Ok built)
+by_redeem true true s miscounted long then_ built is = (refl, refl, is)
+by_redeem true false s miscounted long then_ built is = absurd cc
+by_redeem false u s miscounted long then_ built is = absurd cc
 
-pub redeem_built : (program : Artifact) (ctor : List (List ℕ)) (script : List ℕ) → built_redeem program ctor ≡ Ok script
-    → script ≡ redeem_script program.code ctor
-redeem_built program ctor script is =
-    by_count (length program.ctor == length ctor) (nat_le (length (redeem_script program.code ctor)) 520)
-    (redeem_script program.code ctor) script _ _ is
+-- the unlocking script is built
+by_args : (t : Bool) (s redeem : List ℕ) (miscounted : BuildFault) (built : Scripts)
+    → (or_stop (cond t counted (Err miscounted) >>= λ c. Ok s) >>= λ unlocking. Ok (redeem, unlocking)) ≡ Ok built
+    → (t ≡ true) × ((redeem, s) ≡ built)
+by_args true s redeem miscounted built is = (refl, cc)
+by_args false s redeem miscounted built is = absurd cc
 
--- ---- the unlocking script
+by_function : (found : Option AbiCall) (args : List (List ℕ)) (s redeem : List ℕ) (built : Scripts)
+    → (or_stop (chosen_function found >>= λ function. count_check (length function.inputs) (length args) >>= λ c. Ok s) >>= λ unlocking. Ok (redeem, unlocking)) ≡ Ok built
+    → (function : AbiCall) × (found ≡ Some function) × (length function.inputs ≡ length args) × ((redeem, s) ≡ built)
+by_function (Some function) args s redeem built is =
+    let parts = by_args (length function.inputs == length args) s redeem (WrongCount (capped (length function.inputs)) (capped (length args))) built is in
+    (function, refl, eqb-true (length function.inputs) (length args) parts.0, parts.1)
+by_function None args s redeem built is = absurd cc
 
-no_some : {A : Type 0} (x : A) → None ≡ Some x → ⊥
-no_some x h = false≢true (ap (λ (o : Option _). is_some o) h)
-
-abbrev inputs_of : Option AbiCall → ℕ
-inputs_of (Some function) = length function.inputs
-inputs_of None = 0
-
-few_found : (functions : List AbiCall) (k : ℕ) (function : AbiCall) → AllByRecursion (λ f. length f.inputs ≤ 16) functions
-    → slice_get functions k ≡ Some function → length function.inputs ≤ 16
-few_found [] k function all is = absurd (no_some function is)
-few_found (f ∷ functions) zero function all is = subst (λ (n : ℕ). n ≤ 16) (ap inputs_of is) all.0
-few_found (f ∷ functions) (suc k) function all is = few_found functions k function all.1 is
-
-by_args : (t : Bool) (function : AbiCall) (args : List (List ℕ)) (s script : List ℕ) (fault : BuildFault)
-    → (length function.inputs == length args) ≡ t
-    → (cond t counted (Err fault) >>= λ c. Ok s) ≡ Ok script
-    → (length function.inputs ≡ length args) × (script ≡ s)
-by_args true function args s script fault test is =
-    (eqb-true (length function.inputs) (length args) test, sym (ap (script_or s) is))
-by_args false function args s script fault test is = absurd (no_ok fault script is)
-
-by_function : (found : Option AbiCall) (args : List (List ℕ)) (s script : List ℕ)
-    → (chosen_function found >>= λ function. count_check (length function.inputs) (length args) >>= λ counted. Ok s) ≡ Ok script
-    → (function : AbiCall) × (found ≡ Some function) × (length function.inputs ≡ length args) × (script ≡ s)
-by_function (Some function) args s script is =
-    let parts = by_args (length function.inputs == length args) function args s script
-    (WrongCount (capped (length function.inputs)) (capped (length args))) refl is in
-    (function, refl, parts.0, parts.1)
-by_function None args s script is = absurd (no_ok NoSuchFunction script is)
-
-unlocking_built : (program : Artifact) (chosen : ℕ) (args : List (List ℕ)) (redeem script : List ℕ)
-    → built_unlocking program chosen args redeem ≡ Ok script
-    → (function : AbiCall) × (slice_get program.abi chosen ≡ Some function)
-    × (length function.inputs ≡ length args) × (script ≡ spending_script (length program.abi) chosen args redeem)
-unlocking_built program chosen args redeem script is =
-    by_function (slice_get program.abi chosen) args (spending_script (length program.abi) chosen args redeem) script is
-
--- ---- both
+pub of_call : (program : Artifact) (spend : SpendParts) (redeem unlocking : List ℕ)
+    → built_scripts program spend ≡ Ok (redeem, unlocking) → AreOfCall program spend redeem unlocking
+of_call program spend redeem unlocking is =
+    let whole = redeem_of program spend in
+    let parts = by_redeem (length program.ctor == length spend.ctor) (nat_le (length whole) 520) whole
+    (WrongCount (capped (length program.ctor)) (capped (length spend.ctor))) (RedeemTooLong (capped (length whole)))
+    (λ r. or_stop (built_unlocking program spend.chosen spend.args r) >>= λ u. Ok (r, u)) (redeem, unlocking) is in
+    let called = by_function (slice_get program.abi spend.chosen) spend.args (unlocking_of program spend) whole (redeem, unlocking) parts.2 in
+    let same : (whole, unlocking_of program spend) ≡ (redeem, unlocking) = called.3 in
+    let redeem_is : redeem ≡ whole = sym (ap (λ (b : Scripts). b.0) same) in
+    record {
+      ctor_count = eqb-true (length program.ctor) (length spend.ctor) parts.0;
+      function = called.0;
+      found = called.1;
+      arg_count = called.2;
+      size = subst (λ (s : List ℕ). length s ≤ 520) (sym redeem_is) (leb-true (length whole) 520 parts.1);
+      redeem_is = redeem_is;
+      unlocking_is = sym (ap (λ (b : Scripts). b.1) same);
+    }
 
 -- scripts that are built are those that are told
 pub scripts_told : (program : Artifact) (spend : SpendParts) (redeem unlocking : List ℕ)
-    → built_redeem program spend.ctor ≡ Ok redeem → built_unlocking program spend.chosen spend.args redeem ≡ Ok unlocking
-    → told_with program spend redeem unlocking ≡ told_of program spend
-scripts_told program spend redeem unlocking first second =
-    let same = redeem_built program spend.ctor redeem first in
-    let called = unlocking_built program spend.chosen spend.args redeem unlocking second in
-    ap (told_with program spend redeem) called.3
-    ∙ ap (λ (r : List ℕ). told_with program spend r (spending_script (length program.abi) spend.chosen spend.args r)) same
+    → built_scripts program spend ≡ Ok (redeem, unlocking) → told_with program spend redeem unlocking ≡ told_of program spend
+scripts_told program spend redeem unlocking is =
+    let call = of_call program spend redeem unlocking is in
+    ap (told_with program spend redeem) call.unlocking_is
+    ∙ ap (λ (r : List ℕ). told_with program spend r (unlocking_of program spend)) call.redeem_is
+
+few_found : (functions : List AbiCall) (k : ℕ) (function : AbiCall) → AllByRecursion (λ f. length f.inputs ≤ 16) functions
+    → slice_get functions k ≡ Some function → length function.inputs ≤ 16
+few_found [] k function all is = absurd cc
+few_found (f ∷ functions) zero function all is =
+    let same : f ≡ function = cc in
+    subst (λ (g : AbiCall). length g.inputs ≤ 16) same all.0
+few_found (f ∷ functions) (suc k) function all is = few_found functions k function all.1 is
 
 -- they are of few elements
 pub scripts_small : (program : Artifact) (spend : SpendParts) (redeem unlocking : List ℕ) → HasFewInputs program
-    → built_unlocking program spend.chosen spend.args redeem ≡ Ok unlocking
+    → built_scripts program spend ≡ Ok (redeem, unlocking)
     → length unlocking ≤ 523 * (length spend.args + 2) → length unlocking ≤ 20000
-scripts_small program spend redeem unlocking few second size =
-    let called = unlocking_built program spend.chosen spend.args redeem unlocking second in
-    let most = few_found program.abi spend.chosen called.0 few called.1 in
-    let same : length called.0.inputs ≡ length spend.args = called.2 in
-    omega (arith, most, same, size)
+scripts_small program spend redeem unlocking few is size =
+    let call = of_call program spend redeem unlocking is in
+    let most = few_found program.abi spend.chosen call.function few call.found in
+    omega (arith, most, call.arg_count, size)

@@ -1,8 +1,7 @@
 -- Where the first line of a file ends.
 use Rattle.std.proofs.Common.{◌≡◌, ℕ, suc, ◌+◌, ◌<◌, ◌==◌, Bool, true, false, cond, List, [], ◌∷◌, ◌++◌, length, take, drop, Option, Some, None, Result, Ok, Err, refl, sym, ap, subst, ◌∙◌, arith, append_assoc}
 use Rattle.std.specs.List.{position_from}
-use Rattle.std.specs.Prelude.{is_some, IfSome}
-use Rattle.std.proofs.lemmas.Bool.{false≢true}
+use Rattle.std.specs.Prelude.{IfSome}
 use Rattle.cash_base.specs.Failing.{◌>>=◌}
 use Rattle.spend_debug.specs.SpendLines.{Line, lines, in_front, line_element, elements_of, behind}
 use Rattle.spend_debug.specs.declared.spend_lines.LineFault.{LineFault}
@@ -27,9 +26,6 @@ abbrev or_zero : Option ℕ → ℕ
 or_zero (Some n) = n
 or_zero None = 0
 
-none_is_not : (a : ℕ) → None ≡ Some a → ⊥
-none_is_not a e = false≢true (ap (λ (o : Option ℕ). is_some o) e)
-
 cut_step : (t : Bool) (byte : ℕ) (bytes : List ℕ) (i at : ℕ)
     → (position_from is_line_feed (i + 1) bytes ≡ Some at → IsCut bytes (lines bytes) (i + 1) at)
     → cond t (Some i) (position_from is_line_feed (i + 1) bytes) ≡ Some at
@@ -49,7 +45,7 @@ cut_step false byte bytes i at later found =
     record { k = suc is_cut.k; is = omega arith; within = omega arith; cut = cut }
 
 cut_at : (bytes : List ℕ) (i at : ℕ) → position_from is_line_feed i bytes ≡ Some at → IsCut bytes (lines bytes) i at
-cut_at [] i at found = absurd (none_is_not at found)
+cut_at [] i at found = absurd cc
 cut_at (byte ∷ bytes) i at found =
     cut_step (byte == 0x0a) byte bytes i at (λ later. cut_at bytes (i + 1) at later) found
 
@@ -79,7 +75,7 @@ open_step : (t : Bool) (byte : ℕ) (bytes : List ℕ) (i : ℕ)
     → (position_from is_line_feed (i + 1) bytes ≡ None → in_front byte (lines bytes) ≡ rest_of (byte ∷ bytes) ∷ [])
     → cond t (Some i) (position_from is_line_feed (i + 1) bytes) ≡ None
     → cond t (whole [] ∷ lines bytes) (in_front byte (lines bytes)) ≡ rest_of (byte ∷ bytes) ∷ []
-open_step true byte bytes i later found = absurd (none_is_not i (sym found))
+open_step true byte bytes i later found = absurd cc
 open_step false byte bytes i later found = later found
 
 open_lines : (byte : ℕ) (bytes : List ℕ) (i : ℕ) → position_from is_line_feed i (byte ∷ bytes) ≡ None

@@ -1,11 +1,11 @@
 -- Hexadecimal digits spell bytes.
 use Rattle.std.proofs.Common.{◌≡◌, ℕ, ◌+◌, ◌-◌, ◌*◌, ◌%◌, ◌<◌, ◌≤◌, ◌==◌, Bool, true, false, cond, List, [], ◌∷◌, length, Option, Some, None, Result, Ok, Err, refl, ap, subst, arith}
-use Rattle.std.specs.Prelude.{◌&&◌, nat_le, is_some, is_ok}
+use Rattle.std.specs.Prelude.{◌&&◌, nat_le, is_some}
 use Rattle.std.proofs.lemmas.Bool.{false≢true}
 use Rattle.std.proofs.lemmas.Bool.Decides.{nat_tests}
 use Rattle.hex.specs.Hex.{◌>>=◌, hex_digit_value, digit_or_error, value_at, pair_value, decode_pairs, decode_of}
 use Rattle.hex.specs.declared.error.FromHexError.{FromHexError}
-use Rattle.hex.specs.declared.error.FromHexError.TheVariants.{OddLength, InvalidHexCharacter}
+use Rattle.hex.specs.declared.error.FromHexError.TheVariants.{OddLength}
 use Rattle.cash_base.specs.Number.{IsBytes}
 
 abbrev number_in : Option ℕ → ℕ
@@ -19,9 +19,6 @@ ok_number (Err e) = 0
 abbrev pub ok_list : {A E : Type 0} → Result (List A) E → List A
 ok_list (Ok xs) = xs
 ok_list (Err e) = []
-
-pub no_ok : {A E : Type 0} (e : E) (x : A) → Err e ≡ Ok x → ⊥
-no_ok e x h = false≢true (ap is_ok h)
 
 digit_cases : (a b d : Bool) (c v : ℕ) → (nat_le 65 c && nat_le c 70) ≡ a → (nat_le 97 c && nat_le c 102) ≡ b
     → (nat_le 48 c && nat_le c 57) ≡ d
@@ -49,7 +46,7 @@ value_cases : (o : Option ℕ) (c i v : ℕ) → hex_digit_value c ≡ o → dig
 value_cases (Some w) c i v is read =
     let same : w ≡ v = ap (λ (r : Result ℕ FromHexError). ok_number r) read in
     subst (λ (n : ℕ). n < 16) same (digit_small c w is)
-value_cases None c i v is read = absurd (no_ok (InvalidHexCharacter c i) v read)
+value_cases None c i v is read = absurd cc
 
 value_small : (c i v : ℕ) → value_at c i ≡ Ok v → v < 16
 value_small c i v read = value_cases (hex_digit_value c) c i v refl read
@@ -57,8 +54,8 @@ value_small c i v read = value_cases (hex_digit_value c) c i v refl read
 byte_cases : (high low : Result ℕ FromHexError) (b : ℕ) → ((v : ℕ) → high ≡ Ok v → v < 16)
     → ((v : ℕ) → low ≡ Ok v → v < 16)
     → (high >>= λ h. low >>= λ l. Ok (h * 16 + l)) ≡ Ok b → b < 256
-byte_cases (Err e) low b small_high small_low read = absurd (no_ok e b read)
-byte_cases (Ok h) (Err e) b small_high small_low read = absurd (no_ok e b read)
+byte_cases (Err e) low b small_high small_low read = absurd cc
+byte_cases (Ok h) (Err e) b small_high small_low read = absurd cc
 byte_cases (Ok h) (Ok l) b small_high small_low read =
     let is : h * 16 + l ≡ b = ap (λ (r : Result ℕ FromHexError). ok_number r) read in
     let high : h < 16 = small_high h refl in
@@ -73,8 +70,8 @@ byte_small high low i b read =
 pairs_cases : (first : Result ℕ FromHexError) (further : Result (List ℕ) FromHexError) (bytes : List ℕ)
     → ((b : ℕ) → first ≡ Ok b → b < 256) → ((bs : List ℕ) → further ≡ Ok bs → IsBytes bs)
     → (first >>= λ b. further >>= λ bs. Ok (b ∷ bs)) ≡ Ok bytes → IsBytes bytes
-pairs_cases (Err e) further bytes small later read = absurd (no_ok e bytes read)
-pairs_cases (Ok b) (Err e) bytes small later read = absurd (no_ok e bytes read)
+pairs_cases (Err e) further bytes small later read = absurd cc
+pairs_cases (Ok b) (Err e) bytes small later read = absurd cc
 pairs_cases (Ok b) (Ok bs) bytes small later read =
     let is : (b ∷ bs) ≡ bytes = ap (λ (r : Result (List ℕ) FromHexError). ok_list r) read in
     subst (λ (all : List ℕ). IsBytes all) is (small b refl, later bs refl)
@@ -84,14 +81,14 @@ unfolding decode_pairs
 pairs_small i [] bytes read =
     let is : [] ≡ bytes = ap (λ (r : Result (List ℕ) FromHexError). ok_list r) read in
     subst (λ (all : List ℕ). IsBytes all) is tt
-pairs_small i (digit ∷ []) bytes read = absurd (no_ok OddLength bytes read)
+pairs_small i (digit ∷ []) bytes read = absurd cc
 pairs_small i (high ∷ low ∷ rest) bytes read =
     pairs_cases (pair_value high low i) (decode_pairs (i + 2) rest) bytes (λ b. byte_small high low i b)
     (λ bs. pairs_small (i + 2) rest bs) read
 
 decoded_cases : (odd : Bool) (text bytes : List ℕ)
     → cond odd (Err OddLength) (decode_pairs 0 text) ≡ Ok bytes → IsBytes bytes
-decoded_cases true text bytes read = absurd (no_ok OddLength bytes read)
+decoded_cases true text bytes read = absurd cc
 decoded_cases false text bytes read = pairs_small 0 text bytes read
 
 -- what digits spell are bytes

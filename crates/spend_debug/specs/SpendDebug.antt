@@ -1,5 +1,5 @@
 -- What a spend of a compiled contract comes to: its scripts, the machine's outcome, and the place of a failure.
-use Rattle.std.specs.Prelude.{ℕ, ◌-◌, nat_lt, if◌then◌else◌, List, [], ◌∷◌, length, replicate, Option, Some, None, Result, Ok, Err}
+use Rattle.std.specs.Prelude.{◌≡◌, ℕ, ◌-◌, ◌≤◌, nat_lt, if◌then◌else◌, List, [], ◌∷◌, length, slice_get, replicate, Option, Some, None, Result, Ok, Err}
 use Rattle.cash_base.specs.declared.place.Span.{Span}
 use Rattle.cash_base.specs.Failing.{◌>>=◌}
 use Rattle.tx_context.specs.Transaction.{input_parts, transaction, Transaction, Locking}
@@ -12,7 +12,7 @@ use Rattle.bch_vm.specs.Law.{locking_script}
 use Rattle.bch_vm.specs.Spend.{spend_outcome}
 use Rattle.span_map.specs.declared.SpanRow.{SpanRow}
 use Rattle.span_map.specs.Places.{place_of}
-use Rattle.artifact_json.specs.Artifact.{Artifact}
+use Rattle.artifact_json.specs.Artifact.{Artifact, AbiCall}
 use Rattle.unlocker.specs.declared.BuildFault.{BuildFault}
 use Rattle.unlocker.specs.declared.BuildFault.TheVariants as faults
 use Rattle.unlocker.specs.Scripts.{redeem_script, spending_script}
@@ -88,3 +88,16 @@ told_of program spend = told_with program spend (redeem_of program spend) (unloc
 -- how the machine ends on it
 abbrev pub outcome_of : Artifact → SpendParts → MachineOutcome
 outcome_of program spend = outcome_with spend (redeem_of program spend) (unlocking_of program spend)
+
+-- ---- scripts that are built
+
+-- They are the scripts of a call: there are as many elements as the constructor and the function have parameters, and the
+-- redeem script can be pushed as one element.
+pub record AreOfCall (program : Artifact) (spend : SpendParts) (redeem unlocking : List ℕ) : Type 0 where
+  pub ctor_count : length program.ctor ≡ length spend.ctor
+  pub function : AbiCall
+  pub found : slice_get program.abi spend.chosen ≡ Some function
+  pub arg_count : length function.inputs ≡ length spend.args
+  pub size : length redeem ≤ 520
+  pub redeem_is : redeem ≡ redeem_of program spend
+  pub unlocking_is : unlocking ≡ unlocking_of program spend

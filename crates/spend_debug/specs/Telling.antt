@@ -75,7 +75,7 @@ machine_name machine.EndFalse = codes "EndFalse"
 machine_name machine.EndEmpty = codes "EndEmpty"
 machine_name machine.Truncated = codes "Truncated"
 
--- a false element at the end of a script that has a place is the false value of the source's last check
+-- a false element at the end of a script that has a place is told as a check that fails
 abbrev pub placed_name : MachineCause → List ℕ
 placed_name machine.EndFalse = cause_name causes.CheckFailed
 placed_name cause = machine_name cause
@@ -116,11 +116,11 @@ failure_line place cause at =
 abbrev pub script_line : List ℕ → List ℕ → List ℕ
 script_line name script = name ++ codes " " ++ encode_lower script ++ codes "\n"
 
--- the three scripts, a line each, and then the verdict
-abbrev pub report_lines : Told → Option LineCol → List ℕ
-report_lines told place =
+-- the three scripts, a line each, and then the verdict, with the line and the column of its place in the source
+abbrev pub report_lines : List ℕ → Told → List ℕ
+report_lines source told =
     script_line (codes "redeem") told.redeem ++ script_line (codes "unlocking") told.unlocking
-    ++ script_line (codes "locking") told.locking ++ verdict_line told.outcome place
+    ++ script_line (codes "locking") told.locking ++ verdict_line told.outcome (told_place source told.place)
 
 -- ---- why no spend is made of what is handed in
 

@@ -6,7 +6,7 @@ pub mod report;
 pub mod spend_lines;
 pub mod spends;
 
-pub use report::{InputStop, Report, build_stop, input_text, line_stop, report_text, told_place};
+pub use report::{InputStop, Report, build_stop, input_text, line_stop, report_text};
 pub use spends::{Spend, SpendStop, debug, plain_frame};
 
 #[cfg(test)]

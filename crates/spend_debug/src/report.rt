@@ -40,11 +40,11 @@ impl Model for Report {
 /// Why no spend is made of what is handed in.
 #[derive(Clone, Copy, Debug, PartialEq, Eq)]
 pub enum InputStop {
-    /// An argument is neither empty nor hexadecimal digits in pairs.
+    /// A line of arguments is neither `-` nor an even, positive number of hexadecimal digits, or no line feed ends it.
     BadHex,
-    /// An argument has more than 520 bytes.
+    /// A line has the digits of more than 520 bytes.
     Range,
-    /// There are more than 16 arguments.
+    /// There are more than 16 lines.
     TooMany,
     /// There are other than as many elements as parameters.
     WrongCount {
@@ -88,19 +88,17 @@ pub fn build_stop(fault: BuildFault) -> Option<InputStop>
     }
 }
 
-/// The text of a report, where the place of a failure is at this line and column.
+/// The text of a report on a spend of this source's contract.
 ///
 /// It has the lines `redeem HEX`, `unlocking HEX` and `locking HEX`, and then `accepted`, or `refused WHERE CAUSE opcode
-/// N`. WHERE is LINE:COL where there is a place, and otherwise the script. CAUSE is the cause's name, and `CheckFailed`
-/// for a false element at the end of a script that has a place. N is the index of the instruction in its script. Each
-/// line ends with a line feed.
-pub fn report_text(
-    alloc: Global,
-    report: &Report,
-    place: Option<(u32, u32)>,
-) -> Result<Vec<u8>, Memory>
-    ensures { IfOk result (λ text. text.items ≡ report_lines report.now place) }
+/// N`. WHERE is LINE:COL of the first byte of the place where there is one, both from 1, and otherwise the script. CAUSE
+/// is the cause's name, and `CheckFailed` for a false element at the end of a script that has a place. N is the index of
+/// the instruction in its script. Each line ends with a line feed.
+pub fn report_text(alloc: Global, source: &[u8], report: &Report) -> Result<Vec<u8>, Memory>
+    requires { length source.now ≤ 2147483647 }
+    ensures { IfOk result (λ text. text.items ≡ report_lines source.now report.now) }
 {
+    let place = told_place(source, report.place);
     let mut text = Vec::new(alloc);
     add_script(alloc, &mut text, "redeem", report.redeem.as_slice())?;
     add_script(alloc, &mut text, "unlocking", report.unlocking.as_slice())?;
@@ -110,7 +108,7 @@ pub fn report_text(
 }
 
 /// The line and the column at which a place in a source is told, both from 1: those of its first byte.
-pub fn told_place(source: &[u8], place: Option<Span>) -> Option<(u32, u32)>
+fn told_place(source: &[u8], place: Option<Span>) -> Option<(u32, u32)>
     requires { length source.now ≤ 2147483647 }
     ensures { result ≡ Telling.told_place source.now place }
 {

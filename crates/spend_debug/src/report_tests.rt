@@ -2,8 +2,12 @@
 
 use crate::{InputStop, Report, input_text, report_text};
 use bch_vm::{MachineOutcome, Which};
-use cash_base::{Cause, MachineCause};
+use cash_base::{Cause, MachineCause, Span};
 use std::test::Fail;
+
+// A line of 50 blanks, and behind ten empty ones a line of five.
+const SOURCE: &str =
+    "                                                  \n\n\n\n\n\n\n\n\n\n\n     ";
 
 fn refused(script: Which, at: u32, cause: MachineCause) -> MachineOutcome {
     MachineOutcome::Refused { script, at, cause }
@@ -22,12 +26,12 @@ fn verdicts_are_told(rt: HostRuntime) -> Result<(), Fail> {
         ),
         (
             refused(Which::Redeem, 1, MachineCause::EndFalse),
-            Some((1, 43)),
+            Some(Span { from: 42, to: 48 }),
             "refused 1:43 CheckFailed opcode 1\n",
         ),
         (
             refused(Which::Redeem, 200, not_a_number),
-            Some((12, 5)),
+            Some(Span { from: 65, to: 66 }),
             "refused 12:5 NotANumber opcode 200\n",
         ),
         (
@@ -46,12 +50,12 @@ fn verdicts_are_told(rt: HostRuntime) -> Result<(), Fail> {
             unlocking: vec![in alloc; 0x01, 0xab]?,
             locking: [0x1f; 23],
             outcome,
-            place: None,
+            place,
         };
         let mut told = String::from_str(alloc, "redeem 559c\nunlocking 01ab\nlocking ")?;
         told.push_str("1f1f1f1f1f1f1f1f1f1f1f1f1f1f1f1f1f1f1f1f1f1f1f\n")?;
         told.push_str(expected)?;
-        let text = report_text(alloc, &report, place)?;
+        let text = report_text(alloc, SOURCE.as_bytes(), &report)?;
         assert_eq!(rt; text.as_slice(), told.as_bytes());
     }
     Ok(())

@@ -102,7 +102,8 @@ fn read_lines(
     mut elements: Vec<Element>,
 ) -> Result<Vec<Element>, LineFault>
     requires { length (lines bytes.now) ≤ most }
-    ensures read { IfOk result (λ all. behind (map (λ e. e.items) elements.items) (elements_of (lines bytes.now)) ≡ Ok (map (λ e. e.items) all.items)) }
+    ensures read { IfOk result (λ all. behind (map (λ e. e.items) elements.items) (elements_of (lines bytes.now))
+        ≡ Ok (map (λ e. e.items) all.items)) }
     ensures refused { IfErr result (λ fault. (fault ≡ faults.Memory) ⊎ (elements_of (lines bytes.now) ≡ Err fault)) }
 {
     let Some(line) = first_line(bytes) else {
@@ -141,7 +142,8 @@ fn first_line(bytes: &[u8]) -> Option<FirstLine<'_>>
 fn line_end(bytes: &[u8]) -> Option<usize>
     ensures value { result ≡ position_from (λ byte. byte == 0x0a) 0 bytes.now }
     ensures within { IfSome result (λ at. at < length bytes.now) }
-    ensures ended { IfSome result (λ at. lines bytes.now ≡ record { text = take at bytes.now; ended = true } ∷ lines (drop (at + 1) bytes.now)) }
+    ensures ended { IfSome result (λ at. lines bytes.now
+        ≡ record { text = take at bytes.now; ended = true } ∷ lines (drop (at + 1) bytes.now)) }
 {
     line_feed(bytes)
 }

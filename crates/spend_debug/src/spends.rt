@@ -12,7 +12,7 @@ ghost use Rattle.span_map.specs.Places.{place_of};
 ghost use Rattle.artifact_json.specs.Artifact.{Artifact, HasFewInputs};
 ghost use Rattle.spend_debug.specs.declared.spends.SpendStop.TheVariants as stops;
 ghost use Rattle.spend_debug.specs.SpendDebug;
-ghost use Rattle.spend_debug.specs.SpendDebug.{SpendParts, stop_of, built_scripts, told_with, told_of, outcome_of};
+ghost use Rattle.spend_debug.specs.SpendDebug.{SpendParts, stop_of, built_scripts, told_with, told_of, outcome_of, AreOfCall};
 ghost use Rattle.spend_debug.specs.Telling.{verdict_line, failure_line, told_place, placed_name, cause_name};
 
 use crate::report::Report;
@@ -106,7 +106,7 @@ pub fn plain_frame(alloc: Global) -> Result<Frame, Memory>
 ///
 /// `Build` comes exactly where the scripts can't be built, with the first of these faults: the count of the constructor's
 /// elements, the size of the redeem script, that there is no such function, the count of the arguments. Memory may be
-/// wanting at any time. The machine can be used again.
+/// wanting at any time. The machine can be used again; where there is no report it is as it was.
 pub fn debug(
     alloc: Global,
     program: &Program,
@@ -117,10 +117,18 @@ pub fn debug(
     ensures report { IfOk result (λ report. report ≡ told_of program.now spend.now) }
     ensures built { IfOk result (λ report. built_scripts program.now spend.now ≡ Ok (report.redeem, report.unlocking)) }
     ensures stopped { IfErr result (λ stop. (stop ≡ stops.Memory) ⊎ (built_scripts program.now spend.now ≡ Err stop)) }
+    ensures lent { IfErr result (λ stop. machine.new ≡ machine.old) }
 {
     let scripts = scripts_of(alloc, program, spend)?;
     Ok(judge(alloc, program, spend, scripts, machine)?)
 }
+
+/// Scripts are built where there are as many elements as the constructor and the function that is called have parameters,
+/// and where the redeem script has at most 520 bytes.
+pub fn built_scripts_are_of_a_call()
+    ensures { (program : Artifact) (spend : SpendParts) (redeem unlocking : List ℕ)
+        → built_scripts program spend ≡ Ok (redeem, unlocking) → AreOfCall program spend redeem unlocking }
+{}
 
 /// A spend that is refused in the redeem script, behind the constructor's pushes, is told at the place of that row of the
 /// program.
@@ -182,8 +190,9 @@ fn judge(
     machine: &mut Machine,
 ) -> Result<Report, Memory>
     requires { length scripts.unlocking.items ≤ 20000 }
-    ensures { IfOk result (λ report.
+    ensures report { IfOk result (λ report.
         report ≡ told_with program.now spend.now scripts.redeem.items scripts.unlocking.items) }
+    ensures lent { IfErr result (λ stop. machine.new ≡ machine.old) }
 {
     let locking = locking(scripts.redeem.as_slice());
     let context = fill(alloc, &spend.frame, &locking, scripts.unlocking.as_slice())?;

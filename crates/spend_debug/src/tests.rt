@@ -5,7 +5,7 @@ ghost use Rattle.std.specs.Prelude.{◌≡◌, length, IfOk, IsTrue};
 ghost use Rattle.script_codec.specs.Spelling.{are_instructions};
 ghost use Rattle.artifact_json.specs.Artifact.{HasFewInputs};
 
-use crate::{Spend, debug, plain_frame, report_text, told_place};
+use crate::{Spend, debug, plain_frame, report_text};
 use artifact_json::{AbiFunction, AbiInput, Program};
 use bch_vm::Machine;
 use cash_base::{Element, Span};
@@ -100,8 +100,7 @@ fn told(alloc: Global, program: &Program, spend: &Spend) -> Result<String, Fail>
     let mut machine = Machine::new(alloc)?;
     match debug(alloc, program, spend, &mut machine) {
         Ok(report) => {
-            let place = told_place(SOURCE.as_bytes(), report.place);
-            let text = report_text(alloc, &report, place)?;
+            let text = report_text(alloc, SOURCE.as_bytes(), &report)?;
             Ok(String::from_utf8(text)?)
         }
         Err(stop) => Ok(format!(in alloc; "{stop:?}")?),

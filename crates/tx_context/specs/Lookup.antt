@@ -70,7 +70,7 @@ is_no_lock e n = nat_lt 5 (length e) || is_negative n
 abbrev pub differs_in_kind : ℕ → ℕ → Bool
 differs_in_kind a b = if nat_lt a 500000000 then not (nat_lt b 500000000) else nat_lt b 500000000
 
--- the lock time isn't that of the transaction, or later, or doesn't count
+-- the wanted lock time is of the other kind than the transaction's, or later, or the transaction's doesn't count
 abbrev pub is_time_missed : Transaction (List ℕ) → ℕ → Bool
 is_time_missed t n = differs_in_kind n t.locktime || (nat_lt t.locktime n || (active_sequence t == 4294967295))
 

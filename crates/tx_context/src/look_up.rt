@@ -195,7 +195,7 @@ fn is_no_lock_number(e: &[u8], n: i64) -> bool
     e.len() > LONGEST_LOCK || n < 0
 }
 
-// Whether the lock time isn't that of the transaction, or later, or doesn't count.
+// Whether the wanted lock time is of the other kind than the transaction's, or later, or the transaction's doesn't count.
 fn is_before(ctx: &Context, n: u64) -> bool
     ensures { result ≡ is_time_missed ctx.now n }
 {

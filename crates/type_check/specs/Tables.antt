@@ -88,7 +88,7 @@ layer_fits Ty-F.Sig Ty-F.Sig = true
 layer_fits Ty-F.Datasig Ty-F.Datasig = true
 layer_fits _ _ = false
 
--- a part of the second type may stand where the first is wanted: the implicit casts
+-- a part of the second type may stand where the first is wanted: the implicit casts, of which arrays and pairs have none
 abbrev pub fits : Ty → Ty → Bool
 fits wanted found = layer_fits (out-Ty wanted) (out-Ty found)
 

@@ -92,7 +92,8 @@ fn check_contract(alloc: Global, tree: &NamedTree) -> Result<TypedContract, Type
 /// MoreSigsThanKeys, LiteralRange. The statements in the blocks of an `if` are parts of it. NoFinalRequire stands
 /// behind the statements of its function. Memory may come at any time.
 ///
-/// Source: the CashScript documentation, language and types.
+/// Source: the CashScript documentation, language and types. The table of casts, the rule on a body's end and the order of
+/// faults are this project's own.
 pub fn check(alloc: Global, tree: &NamedTree) -> Result<TypedContract, TypeFault>
     // The rules give this contract, and refuse no node.
     ensures typed { IfOk result (IsTyped tree.now) }

@@ -23,9 +23,10 @@ pub enum TypeFault {
     EmptyArray { span: Span },
     /// A check of several signatures has more signatures than keys.
     MoreSigsThanKeys { span: Span },
-    /// A number is outside -9223372036854775807 to 9223372036854775807, or a literal of bytes is longer than 520.
+    /// A literal number is above 9223372036854775807, or a literal of bytes or text has more than 520 bytes.
     LiteralRange { span: Span },
-    /// A function's body doesn't end with a `require` on every path; the span is that of the function.
+    /// A function's body doesn't end with a `require`, nor with an `if` whose block, and whose other block where there is
+    /// one, ends so; the span is that of the function.
     NoFinalRequire { span: Span },
     /// Memory ran out.
     Memory,

@@ -34,7 +34,7 @@ pub fn is_single(ty: &Ty) -> bool
     !matches!(ty, Ty::Array(_) | Ty::Pair(_, _))
 }
 
-/// Whether a part of type `found` may stand where `wanted` is wanted.
+/// Whether a part of type `found` may stand where `wanted` is wanted; an array or a pair may nowhere.
 pub fn fits(wanted: &Ty, found: &Ty) -> bool
     ensures { result ≡ table.fits wanted.now found.now }
 {
@@ -478,9 +478,10 @@ fn explicit_effect(to: &Ty, from: &Ty) -> Option<CastEffect>
     }
 }
 
-/// What a cast to a type does with an element of another, or `None` where there is no such cast.
+/// What a cast to a type does with an element of another, or `None` where there is no such cast, as to or from an array or
+/// a pair.
 ///
-/// Source: the CashScript documentation, types and casts.
+/// The table is this project's own, after the CashScript documentation on types and casts.
 pub fn cast_effect(to: &Ty, from: &Ty) -> Option<CastEffect>
     ensures { result ≡ table.cast_effect to.now from.now }
 {

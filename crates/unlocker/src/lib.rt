@@ -78,7 +78,8 @@ impl<T: Drop> From<AllocFailed<T>> for BuildFault {
 #[tactic(auto, using(crate::proofs::Pushed::joined))]
 pub fn redeem(alloc: Global, program: &Program, ctor: &[Element]) -> Result<Vec<u8>, BuildFault>
     ensures built { IfOk result (λ script. built_redeem program.now (map (λ e. e.items) ctor.now) ≡ Ok script.items) }
-    ensures refused { IfErr result (λ fault. (fault ≡ faults.Memory) ⊎ (built_redeem program.now (map (λ e. e.items) ctor.now) ≡ Err fault)) }
+    ensures refused { IfErr result (λ fault. (fault ≡ faults.Memory)
+        ⊎ (built_redeem program.now (map (λ e. e.items) ctor.now) ≡ Err fault)) }
     ensures size { IfOk result (λ script. length script.items ≤ 520) }
 {
     check_elements(program.ctor.len(), ctor)?;
@@ -175,7 +176,8 @@ fn handed_pushes(
     args: &[Element],
 ) -> Result<Vec<Instr>, Memory>
     requires { function < 2 ^ 63 }
-    ensures pushed { IfOk result (λ code. code.items ≡ map push (reverse (handed_in functions function (map (λ e. e.items) args.now)))) }
+    ensures pushed { IfOk result (λ code. code.items
+        ≡ map push (reverse (handed_in functions function (map (λ e. e.items) args.now)))) }
     ensures spelled { IfOk result (λ code. IsTrue (are_instructions code.items)) }
     ensures size { IfOk result (λ code. length (spellings code.items) ≤ 523 * (length args.now + 1)) }
 {

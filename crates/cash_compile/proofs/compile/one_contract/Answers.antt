@@ -3,5 +3,5 @@ use Rattle.cash_compile.proofs.compile.one_contract.Goals as goal
 
 pub returns : goal.returns
 returns c =
-    let laws : Laws = record { tree = c.one_tree.ensures; named = c.one_answer.ensures.one; either = c.one_answer.ensures.either; apart = c.one_answer.ensures.apart; judged = c.judged_once.ensures } in
+    let laws : Laws = record { tree = c.one_tree.ensures.one; spelled = c.one_tree.ensures.either; named = c.one_answer.ensures.one; either = c.one_answer.ensures.either; apart = c.one_answer.ensures.apart; judged = c.judged_once.ensures } in
     one_contract_is laws

@@ -4,7 +4,7 @@ use Rattle.cash_base.specs.declared.place.Span.{Span}
 use Rattle.source_meaning.specs.Runnable.{nodes}
 use Rattle.cash_compile.specs.Rows.{doings, are_rows_of, code_size}
 use Rattle.cash_compile.specs.Emission.{told_of}
-use Rattle.cash_compile.proofs.Decided.{are_few, rows_inside}
+use Rattle.cash_compile.proofs.Decided.{are_few, rows_placed}
 use Rattle.cash_compile.proofs.emission.emit.Goals as goal
 
 pub returns-clause-few : goal.returns-clause-few
@@ -24,8 +24,8 @@ returns-clause-few c =
     let bytes : code_size middle.rows.items ≤ 7 * nodes c.in-Require.value + 6 = omega (arith, value.size, ap code_size c.new.ensures.items) in
     are_few statement all belong (omega (arith, dropped.count, params, small, rows)) (omega (arith, dropped.size, params, small, bytes))
 
-pub returns-clause-inside : goal.returns-clause-inside
-returns-clause-inside c = λ len inside.
+pub returns-clause-placed : goal.returns-clause-placed
+returns-clause-placed c =
     let h = c.requires in
     let value = c.in_ok-expression.ensures in
     let dropped = c.in_ok-drop_params.ensures in
@@ -34,8 +34,9 @@ returns-clause-inside c = λ len inside.
     let own : c.index-as_slice-0-2.result.span ≡ h.statement.span = grind (arith, common_steps) in
     let same : middle.statement ≡ h.statement.span = value.emits.statement ∙ own in
     let told : doings middle.rows.items ≡ told_of h.value = grind (arith, common_steps) in
+    let params : middle.params ≡ length h.function.params = grind (arith, common_steps) in
     let belong : are_rows_of h.statement.span all ≡ true =
     subst (λ (s : Span). are_rows_of s all ≡ are_rows_of s middle.rows.items) same dropped.belong
     ∙ subst (λ (s : Span). are_rows_of s middle.rows.items ≡ are_rows_of s c.new.result.items) own value.belong
     ∙ ap (are_rows_of h.statement.span) c.new.ensures.items in
-    rows_inside c.args.contract.now h len middle.params middle.rows.items all inside told (grind (arith, common_steps)) belong
+    rows_placed c.args.contract.now h middle.params middle.rows.items all params told (grind (arith, common_steps)) belong

@@ -1,6 +1,7 @@
 use Rattle.std.proofs.Common.{map, refl}
 use Rattle.std.proofs.lemmas.Result.{err_from_is_err_and}
-use Rattle.cashc.specs.Answering.{report_status, placed_report}
+use Rattle.spend_debug.specs.Telling.{report_lines}
+use Rattle.cashc.specs.Answering.{report_status}
 use Rattle.cashc.proofs.Judged.{told, plain_is_frame, same_output, scripts_stopped}
 use Rattle.cashc.proofs.commands.judged.Goals as goal
 
@@ -13,9 +14,9 @@ returns-clause-shown c =
     let report = c.in_ok-report.report in
     let output = c.in_ok-output.output in
     let few = c.read_elements_are_few.ensures spend args c.in_ok-args.ensures.read in
-    let judged = told c.told_as_a_failure.ensures source compiled.contract compiled.program c.requires.built.correct spend args (report.redeem, report.unlocking)
+    let judged = told c.told_as_a_failure.ensures c.built_scripts_are_of_a_call.ensures source compiled.contract compiled.program c.requires.built.correct spend args report.redeem report.unlocking
     c.in_ok-args.ensures.read few.0 plain_is_frame refl c.in_ok-report.ensures.built report c.in_ok-report.ensures.report in
-    same_output source compiled.contract compiled.program spend output.status (report_status report) output.text.items (placed_report source report)
+    same_output source compiled.contract compiled.program spend output.status (report_status report) output.text.items (report_lines source report)
     c.in_ok-output.ensures.report.0 c.in_ok-output.ensures.report.1 judged
 
 pub returns-in_err-report-clause-stopped : goal.returns-in_err-report-clause-stopped
