@@ -3,12 +3,11 @@ use Rattle.std.proofs.Common.{◌≡◌, ◌↔◌, ℕ, Bool, true, false, List
 use Rattle.std.proofs.lemmas.Bool.{false≢true}
 use Rattle.cash_base.specs.declared.fault.MachineCause.TheVariants.{EndFalse}
 use Rattle.cash_base.specs.Number.{truth_of}
-use Rattle.bch_vm.specs.declared.failure.Failure.{Failure}
 use Rattle.bch_vm.specs.declared.outcome.Which.TheVariants.{Redeem}
 use Rattle.bch_vm.specs.declared.outcome.MachineOutcome.{MachineOutcome}
 use Rattle.bch_vm.specs.declared.outcome.MachineOutcome.TheVariants.{Accepted, Refused}
 use Rattle.bch_vm.specs.Stack.{Stack}
-use Rattle.bch_vm.specs.Script.{State}
+use Rattle.bch_vm.specs.Script.{State, Failure}
 use Rattle.bch_vm.specs.Course.{Stops, ◌>>◌, outcome_of}
 use Rattle.bch_vm.specs.Spend.{clean, top_check}
 use Rattle.bch_vm.specs.Law.{decided_by, EndsTrue}

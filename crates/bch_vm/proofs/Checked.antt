@@ -9,9 +9,8 @@ use Rattle.tx_context.specs.Refusal.{◌>>◌, refused_if}
 use Rattle.script_codec.specs.declared.instr.Instr.{Instr}
 use Rattle.script_codec.specs.Reading.{Raw, instruction, is_minimal}
 use Rattle.script_codec.specs.Counting.{weight}
-use Rattle.bch_vm.specs.declared.failure.Failure.{Failure}
 use Rattle.bch_vm.specs.Board.{Board, height, board_after, limited_after, is_live}
-use Rattle.bch_vm.specs.Script.{State, state_of, run, balanced, Counted, counted, Progress, progress_after, passed, raw_after}
+use Rattle.bch_vm.specs.Script.{State, state_of, run, balanced, Counted, counted, Progress, progress_after, passed, raw_after, Failure}
 
 -- with more than 1,000 elements it is refused
 abbrev pub lowered : Result Board MachineCause → Result Board MachineCause

@@ -1,9 +1,8 @@
 -- How a course ends, without its rows, and courses that stop at no limit.
 use Rattle.std.proofs.Common.{◌≡◌, Ok, Err, Result, IsTrue, refl}
-use Rattle.bch_vm.specs.declared.failure.Failure.{Failure}
 use Rattle.bch_vm.specs.declared.outcome.Which.{Which}
 use Rattle.bch_vm.specs.declared.outcome.MachineOutcome.{MachineOutcome}
-use Rattle.bch_vm.specs.Script.{State}
+use Rattle.bch_vm.specs.Script.{State, Failure}
 use Rattle.bch_vm.specs.Course.{Course, Passes, Gives, Stops, ◌>>=◌, outcome_of}
 use Rattle.bch_vm.specs.Spend.{told, given_stack}
 use Rattle.bch_vm.specs.Law.{is_in_room}

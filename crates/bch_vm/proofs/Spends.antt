@@ -6,13 +6,12 @@ use mathlib.Core.List.{reverse_aux}
 use Rattle.script_codec.specs.declared.instr.Instr.{Instr}
 use Rattle.script_codec.specs.Spelling.{spellings}
 use Rattle.script_codec.specs.Reading.{Piece, reading, spelled, push}
-use Rattle.bch_vm.specs.declared.failure.Failure.{Failure}
 use Rattle.bch_vm.specs.declared.outcome.Which.{Which}
 use Rattle.bch_vm.specs.declared.outcome.Which.TheVariants.{Unlocking, Locking, Redeem}
 use Rattle.bch_vm.specs.declared.outcome.MachineOutcome.TheVariants.{Refused}
 use Rattle.cash_base.specs.declared.fault.MachineCause.TheVariants.{NotPushOnly, ScriptSize}
 use Rattle.bch_vm.specs.Stack.{Stack}
-use Rattle.bch_vm.specs.Script.{State, state, beginning, run, run_end, Progress, progress_after, counted}
+use Rattle.bch_vm.specs.Script.{State, state, beginning, run, run_end, Progress, progress_after, counted, Failure}
 use Rattle.bch_vm.specs.Course.{Course, Gives, Stops, ◌>>=◌, ◌>>◌, outcome_of}
 use Rattle.bch_vm.specs.Spend.{told, pieces_course, script_course, push_check, given_stack, stack_left, is_p2sh, redeemed, clean, behind_redeem, behind_locking, behind_unlocking, scripts_course}
 use Rattle.bch_vm.specs.Law.{decided_by}

@@ -12,12 +12,11 @@ use Rattle.script_codec.specs.declared.instr.Instr.{Instr}
 use Rattle.script_codec.specs.Spelling.{are_instructions, spellings}
 use Rattle.script_codec.specs.Reading.{reading, push}
 use Rattle.script_codec.specs.Counting.{counted_in}
-use Rattle.bch_vm.specs.declared.failure.Failure.{Failure}
 use Rattle.bch_vm.specs.declared.outcome.Which.TheVariants.{Redeem}
 use Rattle.bch_vm.specs.declared.outcome.MachineOutcome.{MachineOutcome}
 use Rattle.bch_vm.specs.declared.outcome.MachineOutcome.TheVariants.{Accepted, Refused}
 use Rattle.bch_vm.specs.Stack.{Stack}
-use Rattle.bch_vm.specs.Script.{State, stack_at_end}
+use Rattle.bch_vm.specs.Script.{State, stack_at_end, Failure}
 use Rattle.bch_vm.specs.Course.{outcome_of}
 use Rattle.bch_vm.specs.Spend.{spent_input, behind_redeem}
 

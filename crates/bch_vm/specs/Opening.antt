@@ -1,4 +1,4 @@
--- Parts of the code.
+-- How many conditions an instruction opens at most.
 use Rattle.std.specs.Prelude.{ℕ}
 use Rattle.script_codec.specs.declared.instr.Instr.{Instr}
 use Rattle.script_codec.specs.declared.instr.Instr.TheVariants.{Push, Do}

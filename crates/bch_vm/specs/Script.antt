@@ -7,7 +7,6 @@ use Rattle.tx_context.specs.Refusal.{◌>>◌, refused_if}
 use Rattle.script_codec.specs.declared.instr.Instr.{Instr}
 use Rattle.script_codec.specs.Reading.{Raw, Piece, Whole, CutOff, instruction, is_minimal}
 use Rattle.script_codec.specs.Counting.{weight}
-use Rattle.bch_vm.specs.declared.failure.Failure.{Failure}
 use Rattle.bch_vm.specs.Stack.{Stack}
 use Rattle.bch_vm.specs.Board.{Board, board, board_after, limited_after, is_live, is_effective}
 
@@ -36,6 +35,12 @@ abbrev pub state : Stack → Progress → State
 state stack progress = state_of (board stack [] []) progress
 
 -- ---- the run of instructions, without the limits on sizes, counts and heights
+
+-- Where a run of instructions fails: the index of the instruction, counted from 0, or their number where a condition is
+-- open at the end, and why.
+pub record Failure : Type 0 where
+  pub at : ℕ
+  pub cause : MachineCause
 
 -- the instruction was passed, or its failure has its index
 abbrev pub passed : ℕ → Progress → Result Board MachineCause → Result State Failure

@@ -6,14 +6,13 @@ use Rattle.cash_base.specs.Number.{truth_of}
 use Rattle.tx_context.specs.Transaction.{InputParts, Transaction, input_parts}
 use Rattle.tx_context.specs.Table as verdict
 use Rattle.script_codec.specs.Reading.{Piece, Whole, CutOff, instruction, reading}
-use Rattle.bch_vm.specs.declared.failure.Failure.{Failure}
 use Rattle.bch_vm.specs.declared.outcome.Which.{Which}
 use Rattle.bch_vm.specs.declared.outcome.Which.TheVariants.{Unlocking, Locking, Redeem}
 use Rattle.bch_vm.specs.declared.outcome.MachineOutcome.{MachineOutcome}
 use Rattle.bch_vm.specs.declared.outcome.MachineOutcome.TheVariants.{Accepted, Refused}
 use Rattle.bch_vm.specs.Stack.{Stack}
 use Rattle.bch_vm.specs.Board.{is_executed}
-use Rattle.bch_vm.specs.Script.{State, state, beginning, balanced, Counted, counted, piece_after}
+use Rattle.bch_vm.specs.Script.{State, state, beginning, balanced, Counted, counted, piece_after, Failure}
 use Rattle.bch_vm.specs.Course.{Course, Passes, Gives, Stops, ◌>>=◌, ◌>>◌, row_of, outcome_of}
 
 -- ---- a script with all checks

@@ -4,10 +4,9 @@ ghost use Rattle.std.specs.Prelude.{◌≡◌, ◌↔◌, ℕ, List, Result, IsT
 ghost use Rattle.tx_context.specs.Transaction.{Transaction};
 ghost use Rattle.tx_context.specs.Table.{Row as Verdict};
 ghost use Rattle.script_codec.specs.declared.instr.Instr.{Instr};
-ghost use Rattle.bch_vm.specs.declared.failure.Failure.{Failure};
 ghost use Rattle.bch_vm.specs.declared.outcome.MachineOutcome.TheVariants.{Accepted};
 ghost use Rattle.bch_vm.specs.Stack.{Stack};
-ghost use Rattle.bch_vm.specs.Script.{State, run_end};
+ghost use Rattle.bch_vm.specs.Script.{State, run_end, Failure};
 ghost use Rattle.bch_vm.specs.Spend.{spend_outcome};
 ghost use Rattle.bch_vm.specs.Law.{IsRedeemed, IsSmall, EndsTrue, decided_by, is_in_room};
 
@@ -32,7 +31,7 @@ pub fn redeemed_code_decides()
 }
 
 /// A spend of code as a redeem script isn't refused for more than 201 opcodes in a script or more than 1,000 elements, where
-/// the elements and the instructions are at most 996 and at most 201 opcodes of the code count.
+/// the elements and the instructions are together at most 996 and at most 201 opcodes of the code count.
 pub fn spend_stays_in_room()
     ensures { (elements : Stack) (code : List Instr) (context : Transaction (List ℕ)) (verdicts : List Verdict)
         → IsRedeemed elements code context

@@ -1,7 +1,6 @@
 //! The Bitcoin Cash machine: what a spend's scripts do, instruction by instruction, and whether the spend is accepted.
 #![tactic(auto)]
 
-pub mod failure;
 pub mod laws;
 pub mod machine;
 pub mod outcome;
@@ -11,7 +10,6 @@ mod run;
 mod stack;
 
 pub use cash_base::MachineCause;
-pub use failure::Failure;
 pub use machine::Machine;
 pub use outcome::{MachineOutcome, Step, Which};
 

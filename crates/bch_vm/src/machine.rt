@@ -140,7 +140,7 @@ impl Machine {
         ensures later { IfNone result (rank self.new.phase < rank self.old.phase) }
     {
         let at = self.run.at();
-        let script = pick(which, unlocking, locking, self.redeem.as_slice());
+        let script = script_of(which, unlocking, locking, self.redeem.as_slice());
         match self.run.pass(script) {
             Ok(Some(executed)) => Some(Step::Ran {
                 script: which,
@@ -266,7 +266,7 @@ impl Machine {
 }
 
 /// The bytes of a script.
-fn pick<'a>(which: Which, unlocking: &'a [u8], locking: &'a [u8], redeem: &'a [u8]) -> &'a [u8]
+fn script_of<'a>(which: Which, unlocking: &'a [u8], locking: &'a [u8], redeem: &'a [u8]) -> &'a [u8]
     ensures { result.now ≡ script_of which unlocking.now locking.now redeem.now }
 {
     match which {

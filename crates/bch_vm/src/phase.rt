@@ -2,6 +2,7 @@
 
 use crate::outcome::{MachineOutcome, Which};
 
+/// Where a spend stands between two steps.
 #[derive(Clone, Copy, Debug, PartialEq, Eq)]
 pub enum Phase {
     /// Nothing was done.

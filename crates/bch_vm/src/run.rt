@@ -3,7 +3,6 @@
 ghost use Rattle.std.specs.Prelude.{◌≡◌, ◌≢◌, ◌↔◌, IsTrue, ◌+◌, ◌-◌, ◌≤◌, ◌<◌, ℕ, List, [], ◌∷◌, length, drop, map, reverse, IfOk, IfErr, OnOk, OnErr, IfSome, IfNone, Ok, Err, Some, None};
 ghost use Rattle.script_codec.specs.Reading.{instruction};
 ghost use Rattle.script_codec.specs.Places.{raw_in};
-ghost use Rattle.script_codec.specs.Counting;
 ghost use Rattle.bch_vm.specs.declared.outcome.Which.{Which};
 ghost use Rattle.bch_vm.specs.declared.outcome.Which.TheVariants.{Unlocking};
 ghost use Rattle.bch_vm.specs.Board.{board, is_executed};
@@ -15,13 +14,13 @@ ghost use Rattle.bch_vm.specs.Position.{Position, position, state_at, IsPassed};
 
 use crate::outcome::{MachineOutcome, Which};
 use crate::room::Room;
-use cash_base::{Element, MachineCause, Memory, truth};
-use script_codec::{RawInstr, next_instr};
+use cash_base::{Element, MAX_ELEMENT_LEN, MachineCause, Memory, truth};
+use script_codec::{RawInstr, next_instr, weight};
 use std::alloc::Global;
 use std::marker::Model;
 
 /// The most bytes that are pushed at once.
-const LONGEST_PUSH: u32 = 520;
+const LONGEST_PUSH: u32 = MAX_ELEMENT_LEN as u32;
 /// The most opcodes that are counted in a script.
 const MOST_OPCODES: u32 = 201;
 /// The most bytes of a script.
@@ -222,9 +221,7 @@ impl Run {
         let instr = raw.meaning(script);
         let executed = self.room.is_executed(&instr);
         let effective = self.room.is_effective(&instr);
-        if let Err(cause) = self.room.exec_limited(&instr) {
-            return Err(cause);
-        }
+        self.room.exec_limited(&instr)?;
         if effective {
             self.last = self.at;
         }
@@ -242,12 +239,4 @@ pub fn is_p2sh(script: &[u8]) -> bool
     ensures { result ≡ Spend.is_p2sh script.now }
 {
     script.len() == 23 && script[0] == 0xa9 && script[1] == 0x14 && script[22] == 0x87
-}
-
-/// How much an opcode counts.
-fn weight(opcode: u8) -> u32
-    ensures value { result ≡ Counting.weight opcode }
-    ensures bound { result ≤ 1 }
-{
-    if opcode > 0x60 { 1 } else { 0 }
 }

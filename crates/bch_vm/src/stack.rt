@@ -15,10 +15,6 @@ use std::marker::Model;
 /// The places of a stack: 1,000 elements, and the three that an opcode adds at most before its limit is tested.
 pub const PLACES: usize = 1003;
 
-const EQUAL: Opcode = Opcode(0x87);
-
-const HASH160: Opcode = Opcode(0xa9);
-
 /// A stack of elements, which contracts see as their bytes, the top first.
 #[derive(Drop)]
 pub struct Elements {
@@ -92,9 +88,9 @@ impl Elements {
             Opcode::NOP => Ok(()),
             Opcode::NIP => self.nip(),
             Opcode::PICK => self.pick(),
-            EQUAL => self.two(Op2::Equal),
+            Opcode::EQUAL => self.two(Op2::Equal),
             Opcode::NUMEQUAL => self.two(Op2::NumEqual),
-            HASH160 => self.one(Op1::Hash160),
+            Opcode::HASH160 => self.one(Op1::Hash160),
             _ => Err(MachineCause::BadOpcode),
         }
     }

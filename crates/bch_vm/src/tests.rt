@@ -21,8 +21,8 @@ fn outcome_of(end: End) -> MachineOutcome {
     }
 }
 
-// Unlocking scripts and locking scripts.
-const SPENDS: [(Script<'static>, Script<'static>, End); 77] = [
+// Unlocking scripts and locking scripts that are run to their end, and what it is.
+const ENDS: [(Script<'static>, Script<'static>, End); 11] = [
     // An end of one true element.
     (&[(b"\x51", 1)], &[], None),
     (&[], &[(b"\x51", 1)], None),
@@ -47,6 +47,43 @@ const SPENDS: [(Script<'static>, Script<'static>, End); 77] = [
         &[(b"\x61", 2)],
         Some((Which::Locking, 1, MachineCause::NotClean)),
     ),
+    // A locking script that is nearly the pattern of BIP 16 is none.
+    (
+        &[(b"\x01\x51", 1)],
+        &[(
+            b"\xa9\x14\xda\x17\x45\xe9\xb5\x49\xbd\x0b\xfa\x1a\x56\x99\x71\xc7\x7e\xba\x30\xcd\x5a\x4b\x87\x61",
+            1,
+        )],
+        None,
+    ),
+    (
+        &[(b"\x51", 1)],
+        &[(
+            b"\xa9\x14\xda\x17\x45\xe9\xb5\x49\xbd\x0b\xfa\x1a\x56\x99\x71\xc7\x7e\xba\x30\xcd\x5a\x4b\x87\x61",
+            1,
+        )],
+        Some((Which::Locking, 3, MachineCause::EndFalse)),
+    ),
+    (
+        &[(b"\x51", 1)],
+        &[(
+            b"\xa9\x14\xda\x17\x45\xe9\xb5\x49\xbd\x0b\xfa\x1a\x56\x99\x71\xc7\x7e\xba\x30\xcd\x5a\x4b\x87",
+            1,
+        )],
+        Some((Which::Locking, 2, MachineCause::HashDiffers)),
+    ),
+    (
+        &[],
+        &[(
+            b"\xa9\x14\xda\x17\x45\xe9\xb5\x49\xbd\x0b\xfa\x1a\x56\x99\x71\xc7\x7e\xba\x30\xcd\x5a\x4b\x87",
+            1,
+        )],
+        Some((Which::Locking, 0, MachineCause::Underflow)),
+    ),
+];
+
+// Unlocking scripts and locking scripts with pushes.
+const PUSHES: [(Script<'static>, Script<'static>, End); 13] = [
     // The unlocking script is pushes alone, which is judged before anything is run.
     (
         &[(b"\x51", 1), (b"\x61", 1)],
@@ -89,6 +126,32 @@ const SPENDS: [(Script<'static>, Script<'static>, End); 77] = [
         &[(b"\x61", 1), (b"\x4e\x01\x00\x00", 1)],
         Some((Which::Locking, 1, MachineCause::Truncated)),
     ),
+    // An executed push is minimal.
+    (
+        &[(b"\x01\x05", 1)],
+        &[],
+        Some((Which::Unlocking, 0, MachineCause::NotMinimal)),
+    ),
+    (
+        &[(b"\x4c\x01\x11", 1)],
+        &[],
+        Some((Which::Unlocking, 0, MachineCause::NotMinimal)),
+    ),
+    (
+        &[],
+        &[(b"\x51\x01\x05", 1)],
+        Some((Which::Locking, 1, MachineCause::NotMinimal)),
+    ),
+    (&[], &[(b"\x00\x63\x01\x05\x68\x51", 1)], None),
+    (
+        &[],
+        &[(b"\x51\x63\x01\x05\x68", 1)],
+        Some((Which::Locking, 2, MachineCause::NotMinimal)),
+    ),
+];
+
+// Unlocking scripts and locking scripts at limits.
+const LIMITS: [(Script<'static>, Script<'static>, End); 14] = [
     // Pushes of 520 and of 521 bytes, in a branch that is not taken too.
     (&[(b"\x4d\x08\x02", 1), (b"\x11", 520)], &[], None),
     (
@@ -144,6 +207,26 @@ const SPENDS: [(Script<'static>, Script<'static>, End); 77] = [
         &[(b"\x61", 201), (b"\x83", 1)],
         Some((Which::Locking, 201, MachineCause::OpLimit)),
     ),
+    // 1,000 and 1,001 elements.
+    (
+        &[(b"\x51", 1000)],
+        &[],
+        Some((Which::Locking, 0, MachineCause::NotClean)),
+    ),
+    (
+        &[(b"\x51", 1001)],
+        &[],
+        Some((Which::Unlocking, 1000, MachineCause::StackLimit)),
+    ),
+    (
+        &[(b"\x51", 1000)],
+        &[(b"\x51", 1)],
+        Some((Which::Locking, 0, MachineCause::StackLimit)),
+    ),
+];
+
+// Unlocking scripts and locking scripts with opcodes.
+const OPCODES: [(Script<'static>, Script<'static>, End); 19] = [
     // Disabled opcodes, in branches that are not taken too.
     (
         &[],
@@ -186,29 +269,62 @@ const SPENDS: [(Script<'static>, Script<'static>, End); 77] = [
         &[(b"\x00\x63\x66\x68\x51", 1)],
         Some((Which::Locking, 2, MachineCause::BadOpcode)),
     ),
-    // An executed push is minimal.
+    // Other opcodes.
     (
-        &[(b"\x01\x05", 1)],
-        &[],
-        Some((Which::Unlocking, 0, MachineCause::NotMinimal)),
+        &[(b"\x51", 1)],
+        &[(b"\x77", 1)],
+        Some((Which::Locking, 0, MachineCause::Underflow)),
     ),
     (
-        &[(b"\x4c\x01\x11", 1)],
-        &[],
-        Some((Which::Unlocking, 0, MachineCause::NotMinimal)),
+        &[(b"\x00", 1)],
+        &[(b"\x79", 1)],
+        Some((Which::Locking, 0, MachineCause::Underflow)),
+    ),
+    (
+        &[(b"\x02\x05\x00", 1), (b"\x55", 1)],
+        &[(b"\x9c", 1)],
+        Some((Which::Locking, 0, MachineCause::Shared(Cause::NotANumber))),
+    ),
+    (
+        &[(b"\x01\x11", 1), (b"\x51", 1)],
+        &[(b"\x79", 1)],
+        Some((Which::Locking, 0, MachineCause::Underflow)),
+    ),
+    (
+        &[(b"\x51", 1)],
+        &[(b"\x6a", 1)],
+        Some((Which::Locking, 0, MachineCause::BadOpcode)),
+    ),
+    (
+        &[(b"\x51", 1)],
+        &[(b"\x50", 1)],
+        Some((Which::Locking, 0, MachineCause::BadOpcode)),
+    ),
+    (
+        &[(b"\x51", 1)],
+        &[(b"\xff", 1)],
+        Some((Which::Locking, 0, MachineCause::BadOpcode)),
+    ),
+    (&[(b"\x02\x05\x00", 1)], &[(b"\x02\x05\x00\x87", 1)], None),
+    (
+        &[(b"\x02\x05\x00", 1)],
+        &[(b"\x55\x87", 1)],
+        Some((Which::Locking, 1, MachineCause::EndFalse)),
+    ),
+    (
+        &[(b"\x51", 1)],
+        &[(b"\x87", 1)],
+        Some((Which::Locking, 0, MachineCause::Underflow)),
     ),
     (
         &[],
-        &[(b"\x51\x01\x05", 1)],
-        Some((Which::Locking, 1, MachineCause::NotMinimal)),
+        &[(b"\xa9", 1)],
+        Some((Which::Locking, 0, MachineCause::Underflow)),
     ),
-    (&[], &[(b"\x00\x63\x01\x05\x68\x51", 1)], None),
-    (
-        &[],
-        &[(b"\x51\x63\x01\x05\x68", 1)],
-        Some((Which::Locking, 2, MachineCause::NotMinimal)),
-    ),
-    // Conditions.
+];
+
+// Unlocking scripts and locking scripts with conditions.
+const CONDITIONS: [(Script<'static>, Script<'static>, End); 16] = [
     (
         &[],
         &[(b"\x63", 1)],
@@ -277,288 +393,6 @@ const SPENDS: [(Script<'static>, Script<'static>, End); 77] = [
         &[(b"\x00", 1)],
         &[(b"\x00\x63\x61\x61\x61\x61\x68", 1)],
         Some((Which::Locking, 0, MachineCause::EndFalse)),
-    ),
-    // 1,000 and 1,001 elements.
-    (
-        &[(b"\x51", 1000)],
-        &[],
-        Some((Which::Locking, 0, MachineCause::NotClean)),
-    ),
-    (
-        &[(b"\x51", 1001)],
-        &[],
-        Some((Which::Unlocking, 1000, MachineCause::StackLimit)),
-    ),
-    (
-        &[(b"\x51", 1000)],
-        &[(b"\x51", 1)],
-        Some((Which::Locking, 0, MachineCause::StackLimit)),
-    ),
-    // 10,000 and 10,001 bytes.
-    (
-        &[],
-        &[
-            (b"\x4d\x08\x02", 1),
-            (b"\x11", 520),
-            (b"\x4d\x08\x02", 1),
-            (b"\x11", 520),
-            (b"\x4d\x08\x02", 1),
-            (b"\x11", 520),
-            (b"\x4d\x08\x02", 1),
-            (b"\x11", 520),
-            (b"\x4d\x08\x02", 1),
-            (b"\x11", 520),
-            (b"\x4d\x08\x02", 1),
-            (b"\x11", 520),
-            (b"\x4d\x08\x02", 1),
-            (b"\x11", 520),
-            (b"\x4d\x08\x02", 1),
-            (b"\x11", 520),
-            (b"\x4d\x08\x02", 1),
-            (b"\x11", 520),
-            (b"\x4d\x08\x02", 1),
-            (b"\x11", 520),
-            (b"\x4d\x08\x02", 1),
-            (b"\x11", 520),
-            (b"\x4d\x08\x02", 1),
-            (b"\x11", 520),
-            (b"\x4d\x08\x02", 1),
-            (b"\x11", 520),
-            (b"\x4d\x08\x02", 1),
-            (b"\x11", 520),
-            (b"\x4d\x08\x02", 1),
-            (b"\x11", 520),
-            (b"\x4d\x08\x02", 1),
-            (b"\x11", 520),
-            (b"\x4d\x08\x02", 1),
-            (b"\x11", 520),
-            (b"\x4d\x08\x02", 1),
-            (b"\x11", 520),
-            (b"\x4d\x08\x02", 1),
-            (b"\x11", 520),
-            (b"\x51", 63),
-        ],
-        Some((Which::Locking, 81, MachineCause::NotClean)),
-    ),
-    (
-        &[],
-        &[
-            (b"\x4d\x08\x02", 1),
-            (b"\x11", 520),
-            (b"\x4d\x08\x02", 1),
-            (b"\x11", 520),
-            (b"\x4d\x08\x02", 1),
-            (b"\x11", 520),
-            (b"\x4d\x08\x02", 1),
-            (b"\x11", 520),
-            (b"\x4d\x08\x02", 1),
-            (b"\x11", 520),
-            (b"\x4d\x08\x02", 1),
-            (b"\x11", 520),
-            (b"\x4d\x08\x02", 1),
-            (b"\x11", 520),
-            (b"\x4d\x08\x02", 1),
-            (b"\x11", 520),
-            (b"\x4d\x08\x02", 1),
-            (b"\x11", 520),
-            (b"\x4d\x08\x02", 1),
-            (b"\x11", 520),
-            (b"\x4d\x08\x02", 1),
-            (b"\x11", 520),
-            (b"\x4d\x08\x02", 1),
-            (b"\x11", 520),
-            (b"\x4d\x08\x02", 1),
-            (b"\x11", 520),
-            (b"\x4d\x08\x02", 1),
-            (b"\x11", 520),
-            (b"\x4d\x08\x02", 1),
-            (b"\x11", 520),
-            (b"\x4d\x08\x02", 1),
-            (b"\x11", 520),
-            (b"\x4d\x08\x02", 1),
-            (b"\x11", 520),
-            (b"\x4d\x08\x02", 1),
-            (b"\x11", 520),
-            (b"\x4d\x08\x02", 1),
-            (b"\x11", 520),
-            (b"\x51", 64),
-        ],
-        Some((Which::Locking, 0, MachineCause::ScriptSize)),
-    ),
-    (
-        &[
-            (b"\x4d\x08\x02", 1),
-            (b"\x11", 520),
-            (b"\x4d\x08\x02", 1),
-            (b"\x11", 520),
-            (b"\x4d\x08\x02", 1),
-            (b"\x11", 520),
-            (b"\x4d\x08\x02", 1),
-            (b"\x11", 520),
-            (b"\x4d\x08\x02", 1),
-            (b"\x11", 520),
-            (b"\x4d\x08\x02", 1),
-            (b"\x11", 520),
-            (b"\x4d\x08\x02", 1),
-            (b"\x11", 520),
-            (b"\x4d\x08\x02", 1),
-            (b"\x11", 520),
-            (b"\x4d\x08\x02", 1),
-            (b"\x11", 520),
-            (b"\x4d\x08\x02", 1),
-            (b"\x11", 520),
-            (b"\x4d\x08\x02", 1),
-            (b"\x11", 520),
-            (b"\x4d\x08\x02", 1),
-            (b"\x11", 520),
-            (b"\x4d\x08\x02", 1),
-            (b"\x11", 520),
-            (b"\x4d\x08\x02", 1),
-            (b"\x11", 520),
-            (b"\x4d\x08\x02", 1),
-            (b"\x11", 520),
-            (b"\x4d\x08\x02", 1),
-            (b"\x11", 520),
-            (b"\x4d\x08\x02", 1),
-            (b"\x11", 520),
-            (b"\x4d\x08\x02", 1),
-            (b"\x11", 520),
-            (b"\x4d\x08\x02", 1),
-            (b"\x11", 520),
-            (b"\x51", 63),
-        ],
-        &[],
-        Some((Which::Locking, 0, MachineCause::NotClean)),
-    ),
-    (
-        &[
-            (b"\x4d\x08\x02", 1),
-            (b"\x11", 520),
-            (b"\x4d\x08\x02", 1),
-            (b"\x11", 520),
-            (b"\x4d\x08\x02", 1),
-            (b"\x11", 520),
-            (b"\x4d\x08\x02", 1),
-            (b"\x11", 520),
-            (b"\x4d\x08\x02", 1),
-            (b"\x11", 520),
-            (b"\x4d\x08\x02", 1),
-            (b"\x11", 520),
-            (b"\x4d\x08\x02", 1),
-            (b"\x11", 520),
-            (b"\x4d\x08\x02", 1),
-            (b"\x11", 520),
-            (b"\x4d\x08\x02", 1),
-            (b"\x11", 520),
-            (b"\x4d\x08\x02", 1),
-            (b"\x11", 520),
-            (b"\x4d\x08\x02", 1),
-            (b"\x11", 520),
-            (b"\x4d\x08\x02", 1),
-            (b"\x11", 520),
-            (b"\x4d\x08\x02", 1),
-            (b"\x11", 520),
-            (b"\x4d\x08\x02", 1),
-            (b"\x11", 520),
-            (b"\x4d\x08\x02", 1),
-            (b"\x11", 520),
-            (b"\x4d\x08\x02", 1),
-            (b"\x11", 520),
-            (b"\x4d\x08\x02", 1),
-            (b"\x11", 520),
-            (b"\x4d\x08\x02", 1),
-            (b"\x11", 520),
-            (b"\x4d\x08\x02", 1),
-            (b"\x11", 520),
-            (b"\x51", 64),
-        ],
-        &[],
-        Some((Which::Unlocking, 0, MachineCause::ScriptSize)),
-    ),
-    // Opcodes.
-    (
-        &[(b"\x51", 1)],
-        &[(b"\x77", 1)],
-        Some((Which::Locking, 0, MachineCause::Underflow)),
-    ),
-    (
-        &[(b"\x00", 1)],
-        &[(b"\x79", 1)],
-        Some((Which::Locking, 0, MachineCause::Underflow)),
-    ),
-    (
-        &[(b"\x02\x05\x00", 1), (b"\x55", 1)],
-        &[(b"\x9c", 1)],
-        Some((Which::Locking, 0, MachineCause::Shared(Cause::NotANumber))),
-    ),
-    (
-        &[(b"\x01\x11", 1), (b"\x51", 1)],
-        &[(b"\x79", 1)],
-        Some((Which::Locking, 0, MachineCause::Underflow)),
-    ),
-    (
-        &[(b"\x51", 1)],
-        &[(b"\x6a", 1)],
-        Some((Which::Locking, 0, MachineCause::BadOpcode)),
-    ),
-    (
-        &[(b"\x51", 1)],
-        &[(b"\x50", 1)],
-        Some((Which::Locking, 0, MachineCause::BadOpcode)),
-    ),
-    (
-        &[(b"\x51", 1)],
-        &[(b"\xff", 1)],
-        Some((Which::Locking, 0, MachineCause::BadOpcode)),
-    ),
-    (&[(b"\x02\x05\x00", 1)], &[(b"\x02\x05\x00\x87", 1)], None),
-    (
-        &[(b"\x02\x05\x00", 1)],
-        &[(b"\x55\x87", 1)],
-        Some((Which::Locking, 1, MachineCause::EndFalse)),
-    ),
-    (
-        &[(b"\x51", 1)],
-        &[(b"\x87", 1)],
-        Some((Which::Locking, 0, MachineCause::Underflow)),
-    ),
-    (
-        &[],
-        &[(b"\xa9", 1)],
-        Some((Which::Locking, 0, MachineCause::Underflow)),
-    ),
-    // A locking script that is nearly the pattern of BIP 16 is none.
-    (
-        &[(b"\x01\x51", 1)],
-        &[(
-            b"\xa9\x14\xda\x17\x45\xe9\xb5\x49\xbd\x0b\xfa\x1a\x56\x99\x71\xc7\x7e\xba\x30\xcd\x5a\x4b\x87\x61",
-            1,
-        )],
-        None,
-    ),
-    (
-        &[(b"\x51", 1)],
-        &[(
-            b"\xa9\x14\xda\x17\x45\xe9\xb5\x49\xbd\x0b\xfa\x1a\x56\x99\x71\xc7\x7e\xba\x30\xcd\x5a\x4b\x87\x61",
-            1,
-        )],
-        Some((Which::Locking, 3, MachineCause::EndFalse)),
-    ),
-    (
-        &[(b"\x51", 1)],
-        &[(
-            b"\xa9\x14\xda\x17\x45\xe9\xb5\x49\xbd\x0b\xfa\x1a\x56\x99\x71\xc7\x7e\xba\x30\xcd\x5a\x4b\x87",
-            1,
-        )],
-        Some((Which::Locking, 2, MachineCause::HashDiffers)),
-    ),
-    (
-        &[],
-        &[(
-            b"\xa9\x14\xda\x17\x45\xe9\xb5\x49\xbd\x0b\xfa\x1a\x56\x99\x71\xc7\x7e\xba\x30\xcd\x5a\x4b\x87",
-            1,
-        )],
-        Some((Which::Locking, 0, MachineCause::Underflow)),
     ),
 ];
 
@@ -690,6 +524,31 @@ const REDEEMS: [(Script<'static>, Script<'static>, &[u8; 20], End); 20] = [
     ),
 ];
 
+// Spends by a long script of 10,000 or of 10,001 bytes and an empty one: which script is long, how many times OP_1 stands in
+// it, and the end.
+const LONG_SPENDS: [(Which, usize, End); 4] = [
+    (
+        Which::Locking,
+        63,
+        Some((Which::Locking, 81, MachineCause::NotClean)),
+    ),
+    (
+        Which::Locking,
+        64,
+        Some((Which::Locking, 0, MachineCause::ScriptSize)),
+    ),
+    (
+        Which::Unlocking,
+        63,
+        Some((Which::Locking, 0, MachineCause::NotClean)),
+    ),
+    (
+        Which::Unlocking,
+        64,
+        Some((Which::Unlocking, 0, MachineCause::ScriptSize)),
+    ),
+];
+
 fn bytes_of(alloc: Global, script: Script<'_>) -> Result<Vec<u8>, AllocError> {
     let mut bytes = Vec::new(alloc);
     for (part, count) in script {
@@ -698,6 +557,19 @@ fn bytes_of(alloc: Global, script: Script<'_>) -> Result<Vec<u8>, AllocError> {
         }
     }
     Ok(bytes)
+}
+
+// Nineteen pushes of 520 bytes, 9,937 bytes in all, and behind them OP_1 so many times.
+fn long_script(alloc: Global, ones: usize) -> Result<Vec<u8>, AllocError> {
+    let push = bytes_of(alloc, &[(b"\x4d\x08\x02", 1), (b"\x11", 520)])?;
+    let mut script = Vec::new(alloc);
+    for _ in 0..19 {
+        script.extend_from_slice(&push)?;
+    }
+    for _ in 0..ones {
+        script.push(0x51)?;
+    }
+    Ok(script)
 }
 
 // A transaction with one input, which is spent by these scripts.
@@ -758,6 +630,24 @@ fn expect_spends(
     Ok(())
 }
 
+fn expect_long_spends(
+    rt: &impl Abort,
+    alloc: Global,
+    spends: &[(Which, usize, End)],
+) -> Result<(), Fail> {
+    let verdicts = no_verdicts(alloc)?;
+    let mut machine = Machine::new(alloc)?;
+    for (long, ones, end) in spends {
+        let script = long_script(alloc, *ones)?;
+        let context = match long {
+            Which::Unlocking => context_of(alloc, &script, &[])?,
+            _ => context_of(alloc, &[], &script)?,
+        };
+        assert_eq!(rt; machine.spend(&context, &verdicts), outcome_of(*end));
+    }
+    Ok(())
+}
+
 fn expect_redeems(
     rt: &impl Abort,
     alloc: Global,
@@ -776,8 +666,33 @@ fn expect_redeems(
 }
 
 #[test]
-fn spends_by_two_scripts(rt: HostRuntime) -> Result<(), Fail> {
-    expect_spends(&rt, rt.alloc(), &SPENDS)
+fn spends_at_their_ends(rt: HostRuntime) -> Result<(), Fail> {
+    expect_spends(&rt, rt.alloc(), &ENDS)
+}
+
+#[test]
+fn spends_by_pushes(rt: HostRuntime) -> Result<(), Fail> {
+    expect_spends(&rt, rt.alloc(), &PUSHES)
+}
+
+#[test]
+fn spends_at_limits(rt: HostRuntime) -> Result<(), Fail> {
+    expect_spends(&rt, rt.alloc(), &LIMITS)
+}
+
+#[test]
+fn spends_by_opcodes(rt: HostRuntime) -> Result<(), Fail> {
+    expect_spends(&rt, rt.alloc(), &OPCODES)
+}
+
+#[test]
+fn spends_by_conditions(rt: HostRuntime) -> Result<(), Fail> {
+    expect_spends(&rt, rt.alloc(), &CONDITIONS)
+}
+
+#[test]
+fn spends_by_long_scripts(rt: HostRuntime) -> Result<(), Fail> {
+    expect_long_spends(&rt, rt.alloc(), &LONG_SPENDS)
 }
 
 #[test]

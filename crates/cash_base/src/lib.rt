@@ -12,7 +12,7 @@ pub mod real;
 pub mod sure;
 pub mod width;
 
-pub use element::Element;
+pub use element::{Element, MAX_ELEMENT_LEN};
 pub use fault::{Cause, MachineCause, Memory};
 pub use look::{Look0, LookAt};
 pub use memory::{MemorySink, MemoryStore};

@@ -171,7 +171,8 @@ impl Model for MemorySink {
 }
 
 impl MemorySink {
-    /// A sink to which nothing is written, before its first call.
+    /// A sink to which nothing is written, before its first call, with its room reserved. `Memory` comes where there is no
+    /// memory for it.
     pub fn new(alloc: Global, failing: Vec<u32>) -> Result<MemorySink, Memory>
         ensures written { IfOk result (λ sink. sink.written ≡ []) }
         ensures calls { IfOk result (λ sink. sink.calls ≡ no_calls failing.items) }

@@ -62,7 +62,7 @@ pub(crate) fn has_sign(e: &[u8]) -> bool
     }
 }
 
-/// The one minimal element of a number. It takes no memory.
+/// The one minimal element of a number above -(2^63). It takes no memory.
 #[tactic(auto, using(crate::proofs::Widths::with_sign_longer))]
 pub fn write_number(n: i64) -> Element
     requires { negsuc 9223372036854775807 <ℤ n }
@@ -130,7 +130,7 @@ pub fn truth(e: &[u8]) -> bool
     false
 }
 
-/// The number of the minimal bytes of `n` is `n`.
+/// The number of the minimal bytes of `n` is `n`, for each `n` above -(2^63) and below 2^63.
 pub fn number_of_written()
     ensures { (n : ℤ) → unsigned_abs n < 2 ^ 63 → number_of (minimal_bytes n) ≡ Some n }
 {}

@@ -3,7 +3,9 @@
 ghost use Rattle.std.specs.Prelude.{◌≡◌};
 ghost use Rattle.cash_base.specs.Source;
 
-/// The bytes of a source from `from` up to but not including `to`, counted from 0; `from` is at most `to`.
+/// The bytes of a source from `from` up to but not including `to`, counted from 0.
+///
+/// `from` is meant to be at most `to`; where it isn't, the text of the span is empty.
 #[derive(Clone, Copy, Debug, PartialEq, Eq)]
 pub struct Span {
     pub from: u32,

@@ -8,7 +8,8 @@ ghost use Rattle.cash_base.specs.Width.{without_sign, trimmed, IsShortestOf, Has
 use crate::element::{Element, copy_of};
 use crate::number::{has_sign, signed};
 
-/// The shortest element with the same sign and magnitude, and the empty one where the magnitude is zero.
+/// The shortest element with the same sign and magnitude as at most 520 bytes have, and the empty one where the magnitude is
+/// zero.
 ///
 /// Source: the Bitcoin Cash specification, OP_BIN2NUM. It takes no memory.
 pub fn shortest(e: &[u8]) -> Element
@@ -20,7 +21,8 @@ pub fn shortest(e: &[u8]) -> Element
     signed(copy_of(significant(digits.as_slice())), has_sign(e))
 }
 
-/// The element of so many bytes with the same sign and magnitude; a magnitude of zero has no sign.
+/// The element of this width, in bytes, with the same sign and magnitude; a magnitude of zero has no sign. The width is at most
+/// 520, and no less than the bytes of the shortest such element.
 ///
 /// Source: the Bitcoin Cash specification, OP_NUM2BIN. It takes no memory.
 pub fn of_width(e: &[u8], width: usize) -> Element

@@ -1,8 +1,8 @@
 -- Rows whose run agrees with the source's run make correct code: the spend of each pair of built scripts agrees with it.
-use Rattle.std.proofs.Common.{◌≡◌, ◌≢◌, eqb, ℕ, ◌+◌, ◌*◌, ◌≤◌, ◌<◌, ◌⊎◌, inl, inr, Bool, true, false, cond, List, [], ◌∷◌, ◌++◌, length, map, reverse, zero, suc, Option, Some, Result, Ok, refl, sym, ap, ◌∙◌, subst, arith}
+use Rattle.std.proofs.Common.{◌≡◌, ◌≢◌, ◌↔◌, eqb, ℕ, ◌+◌, ◌*◌, ◌≤◌, ◌<◌, ◌⊎◌, inl, inr, Bool, true, false, cond, List, [], ◌∷◌, ◌++◌, length, map, reverse, zero, suc, ◌-◌, Option, Some, None, Result, Ok, refl, sym, ap, ◌∙◌, subst, arith}
 use Rattle.std.specs.Prelude.{slice_get, slice_index_or, IsTrue, nat_lt, ◌==◌, if◌then◌else◌, unwrap_or}
 use Rattle.std.specs.List.{AllByRecursion, list_all, enumerate_from}
-use Rattle.std.proofs.lemmas.Bool.{and_parts, eq-eqb, or_from, false≢true}
+use Rattle.std.proofs.lemmas.Bool.{and_parts, eq-eqb, le-ltb, or_from, false≢true}
 use Rattle.std.proofs.lemmas.Bool.Decides.{eqb_tells}
 use Rattle.std.proofs.lemmas.List.{length-append, length-map, append-nil}
 use Rattle.std.proofs.lemmas.Grind.{flat_map-append}
@@ -10,7 +10,9 @@ use Rattle.std.specs.Str.{IsUtf8}
 use Rattle.std.specs.Str.Lossy.{utf8_lossy}
 use Rattle.std.proofs.lemmas.Str.{utf8_lossy-IsUtf8}
 use mathlib.Core.List.{reverse_aux}
-use Rattle.cash_base.specs.declared.fault.MachineCause.TheVariants.{EndFalse}
+use Rattle.cash_base.specs.declared.fault.Cause.{Cause}
+use Rattle.cash_base.specs.declared.fault.MachineCause.{MachineCause}
+use Rattle.cash_base.specs.declared.fault.MachineCause.TheVariants.{Shared, EndFalse}
 use Rattle.cash_base.specs.declared.place.Slot.{Slot}
 use Rattle.cash_base.specs.Element.{IsElement}
 use Rattle.cash_base.specs.Number.{truth_of}
@@ -22,23 +24,24 @@ use Rattle.source_meaning.specs.declared.outcome.SourceOutcome.TheVariants.{Met,
 use Rattle.source_meaning.specs.Meaning.{source_outcome}
 use Rattle.tx_context.specs.Transaction.{InputParts, input_parts, Transaction, Locking}
 use Rattle.tx_context.specs.Limits.{IsFrame}
-use Rattle.tx_context.specs.World.{filled_input, filled_inputs, filled_context}
+use Rattle.tx_context.specs.World.{World, filled_input, filled_inputs, filled_context}
 use Rattle.tx_context.specs.Table as verdict
 use Rattle.script_codec.specs.declared.instr.Instr.{Instr}
 use Rattle.script_codec.specs.declared.spans.Spanned.{Spanned}
 use Rattle.script_codec.specs.Reading.{Raw, Piece, Whole, reading, spelled, instruction, is_minimal, size_of, push}
 use Rattle.script_codec.specs.Spelling.{are_instructions, is_instruction, spelling, spellings, minimal_push}
 use Rattle.script_codec.specs.Counting.{takes_keys, keys_for, keys_pushed, weight, counted_in}
-use Rattle.bch_vm.specs.declared.failure.Failure.{Failure}
 use Rattle.bch_vm.specs.declared.outcome.Which.TheVariants.{Redeem}
+use Rattle.bch_vm.specs.declared.outcome.Which.TheVariants as script
 use Rattle.bch_vm.specs.declared.outcome.MachineOutcome.{MachineOutcome}
 use Rattle.bch_vm.specs.declared.outcome.MachineOutcome.TheVariants.{Accepted, Refused}
 use Rattle.bch_vm.specs.Stack.{Stack}
-use Rattle.bch_vm.specs.Script.{State, run_end, stack_at_end}
+use Rattle.bch_vm.specs.Script.{State, run_end, run_outcome, stack_at_end, Failure}
 use Rattle.bch_vm.specs.Course.{Course, Gives, Stops, ◌>>◌, outcome_of}
 use Rattle.bch_vm.specs.Spend.{top_check, clean, spend_outcome}
 use Rattle.bch_vm.specs.Law.{unlocking_script, locking_script, decided_by, IsRedeemed, IsSmall}
 use Rattle.span_map.specs.declared.SpanRow.{SpanRow}
+use Rattle.span_map.specs.Places.{place_of, place_behind}
 use Rattle.cash_compile.specs.Rows.{instructions, places, is_keyless, is_plain, AreFew}
 use Rattle.cash_tree.specs.declared.Param.{Param}
 use Rattle.cash_tree.specs.declared.Token.{Token}
@@ -52,9 +55,9 @@ use Rattle.cash_compile.specs.Compile.{IsAccepted}
 use Rattle.cash_compile.specs.Describes.{described_param, described_function, lossy_at, DescribesBy, Describes}
 use Rattle.script_codec.proofs.Sizes.{push_size}
 use Rattle.cash_compile.proofs.Words.{ParamsHave, FunctionHas, NamesHave, IsTextAt, names_are_texts}
-use Rattle.cash_compile.specs.Decides.{AgreesAlone, FailsOrEndsFalse, EndsAs, DecidesByRun, AgreesByRun}
-use Rattle.unlocker.specs.Scripts.{spending_script, redeem_script}
-use Rattle.cash_compile.specs.Correct.{Agrees, SpendsAgree, IsCorrect}
+use Rattle.cash_compile.specs.Runs.{AgreesAlone, FailsOrEndsFalse, EndsAs, DecidesByRun, AgreesByRun}
+use Rattle.unlocker.specs.Scripts.{handed_in, spending_script, redeem_script}
+use Rattle.cash_compile.specs.Correct.{IsSameCause, Agrees, spending_context, spending_world, SpendsAgree, Decides, is_limit, is_limited, MeetsNoLimit, IsCorrect}
 
 -- ---- what the unlocking script has at most
 
@@ -153,16 +156,22 @@ end_by last t = outcome_of (checked_top last t >> Stops Accepted)
 one_left : (s : State) (e : List ℕ) (t : Bool) → s.board.stack ≡ e ∷ [] → truth_of e ≡ t → decided_by (Ok s) ≡ end_by s.progress.last t
 one_left s e t left is = ap (behind s.progress.last) left ∙ ap (end_by s.progress.last) is
 
+-- where no constructor has pushes, the place is that of the row
+place_alone : (rows : List SpanRow) (at : ℕ) (cause : MachineCause) → place_behind rows 0 at cause ≡ place_of rows at cause
+place_alone rows at cause =
+    let late : 0 ≤ at = omega arith in
+    let index : at - 0 ≡ at = omega arith in
+    ap (λ (t : Bool). cond t None (place_of rows (at - 0) cause)) (le-ltb at 0 late) ∙ ap (λ (k : ℕ). place_of rows k cause) index
+
 agrees_at_end : (rows : List SpanRow) (outcome : SourceOutcome) (end : Result State Failure) → EndsAs rows outcome end → Agrees rows 0 (decided_by end) outcome
 agrees_at_end rows Met end (s, is, one) =
     subst (λ (o : MachineOutcome). Agrees rows 0 o Met) (sym (ap decided_by is ∙ one_left s one.0 true one.1 one.2)) tt
 agrees_at_end rows (Failed span cause) end (inl (at, is, place)) =
-    let first : at ≡ 0 + at = omega arith in
-    subst (λ (r : Result State Failure). Agrees rows 0 (decided_by r) (Failed span cause)) (sym is) ((at, first, place), inl refl)
+    subst (λ (r : Result State Failure). Agrees rows 0 (decided_by r) (Failed span cause)) (sym is)
+    (place_alone rows at (Shared cause) ∙ place, inl refl)
 agrees_at_end rows (Failed span cause) end (inr (s, is, one, checks, place)) =
-    let first : s.progress.last ≡ 0 + s.progress.last = omega arith in
     subst (λ (o : MachineOutcome). Agrees rows 0 o (Failed span cause)) (sym (ap decided_by is ∙ one_left s one.0 false one.1 one.2))
-    ((s.progress.last, first, place), inr (refl, checks))
+    (place_alone rows s.progress.last EndFalse ∙ place, inr (refl, checks))
 
 -- ---- all spends
 
@@ -171,12 +180,12 @@ Law = (elements : Stack) (code : List Instr) (context : Transaction (List ℕ)) 
     → IsRedeemed elements code context → IsSmall elements code → spend_outcome context verdicts ≡ decided_by (run_end code elements)
 
 spend_agrees : (law : Law) (reads : Reads) (contract : Contract Slot Ty) (rows : List Spanned) (h : AgreesByRun contract rows) (few : AreFew rows)
-    → (args : List (List ℕ)) (frame : Transaction Locking) (verdicts : List verdict.Row) → length args ≡ length h.function.params → AllByRecursion IsElement args
+    → (args : List (List ℕ)) (frame : Transaction Locking) (verdicts : List verdict.Row) (world : World) → length args ≡ length h.function.params → AllByRecursion IsElement args
     → length (spellings (instructions rows)) ≤ 520 → IsFrame frame
     → Agrees (map places rows) 0
     (spend_outcome (filled_context frame (locking_script (spellings (instructions rows))) (unlocking_script args (spellings (instructions rows)))) verdicts)
-    (source_outcome contract [] h.function args)
-spend_agrees law reads contract rows h few args frame verdicts count all size within =
+    (source_outcome contract [] h.function args world)
+spend_agrees law reads contract rows h few args frame verdicts world count all size within =
     let code = instructions rows in
     let redeem = spellings code in
     let locking = locking_script redeem in
@@ -194,8 +203,8 @@ spend_agrees law reads contract rows h few args frame verdicts count all size wi
     let opcodes = counted_few reads code h.spelled few.plain in
     let long = length-map rows (λ (r : Spanned). r.instr) in
     let small : IsSmall args code = record { height = omega (arith, most, long, few.count); opcodes = omega (arith, opcodes, long, few.count) } in
-    subst (λ (o : MachineOutcome). Agrees (map places rows) 0 o (source_outcome contract [] h.function args)) (sym (law args code (filled_context frame locking unlocking) verdicts redeemed small))
-    (agrees_at_end (map places rows) (source_outcome contract [] h.function args) (run_end code args) (h.agrees args count all))
+    subst (λ (o : MachineOutcome). Agrees (map places rows) 0 o (source_outcome contract [] h.function args world)) (sym (law args code (filled_context frame locking unlocking) verdicts redeemed small))
+    (agrees_at_end (map places rows) (source_outcome contract [] h.function args world) (run_end code args) (h.agrees args world count all))
 
 no_elements : (ctor : List (List ℕ)) → length ctor ≡ 0 → ctor ≡ []
 no_elements [] none = refl
@@ -206,11 +215,11 @@ only_one function chosen_one zero found = ap (λ (o : Option (Function Slot Ty))
 only_one function chosen_one (suc n) found = cc
 
 -- what is claimed of one spend
-abbrev Claim : Contract Slot Ty → List Spanned → ℕ → ℕ → List (List ℕ) → Function Slot Ty → List (List ℕ) → Transaction Locking → List verdict.Row → Type 0
-Claim contract rows functions chosen ctor function args frame verdicts =
+abbrev Claim : Contract Slot Ty → List Spanned → ℕ → ℕ → List (List ℕ) → Function Slot Ty → List (List ℕ) → Transaction Locking → List verdict.Row → World → Type 0
+Claim contract rows functions chosen ctor function args frame verdicts world =
     Agrees (map places rows) (length ctor)
     (spend_outcome (filled_context frame (locking_script (redeem_script (instructions rows) ctor)) (spending_script functions chosen args (redeem_script (instructions rows) ctor))) verdicts)
-    (source_outcome contract ctor function args)
+    (source_outcome contract ctor function args world)
 
 pub spends_agree : (law : Law) (reads : Reads) (contract : Contract Slot Ty) (rows : List Spanned) (h : AgreesByRun contract rows) → AreFew rows → SpendsAgree contract (instructions rows) (map places rows)
 spends_agree law reads contract rows h few ctor chosen function args frame verdicts admits within table =
@@ -218,10 +227,11 @@ spends_agree law reads contract rows h few ctor chosen function args frame verdi
     let same = only_one h.function function chosen (ap (λ (fs : List (Function Slot Ty)). slice_get fs chosen) (sym h.only) ∙ admits.found) in
     let size : length (redeem_script (instructions rows) []) ≤ 520 = subst (λ (c : List (List ℕ)). length (redeem_script (instructions rows) c) ≤ 520) none admits.size in
     let count : length args ≡ length h.function.params = admits.arg_count ∙ ap (λ (f : Function Slot Ty). length f.params) (sym same) in
-    let one = spend_agrees law reads contract rows h few args frame verdicts count admits.arg_elements size within in
-    subst (λ (fs : List (Function Slot Ty)). Claim contract rows (length fs) chosen ctor function args frame verdicts) (sym h.only)
-    (subst (λ (f : Function Slot Ty). Claim contract rows 1 chosen ctor f args frame verdicts) same
-    (subst (λ (c : List (List ℕ)). Claim contract rows 1 chosen c h.function args frame verdicts) (sym none) one))
+    let world = spending_world contract (instructions rows) ctor chosen args frame verdicts in
+    let one = spend_agrees law reads contract rows h few args frame verdicts world count admits.arg_elements size within in
+    subst (λ (fs : List (Function Slot Ty)). Claim contract rows (length fs) chosen ctor function args frame verdicts world) (sym h.only)
+    (subst (λ (f : Function Slot Ty). Claim contract rows 1 chosen ctor f args frame verdicts world) same
+    (subst (λ (c : List (List ℕ)). Claim contract rows 1 chosen c h.function args frame verdicts world) (sym none) one))
 
 -- ---- the run alone decides
 
@@ -231,13 +241,55 @@ ends_decide rows (Failed span cause) end (inl (at, is, place)) = subst (λ (r : 
 ends_decide rows (Failed span cause) end (inr (s, is, one, checks, place)) =
     subst (λ (r : Result State Failure). FailsOrEndsFalse (stack_at_end r)) (sym is) (one.0, ap Ok one.1, one.2)
 
-decides : (contract : Contract Slot Ty) (rows : List Spanned) → AgreesByRun contract rows → DecidesByRun contract (instructions rows)
-decides contract rows h = record {
-  function = h.function;
-  only = h.only;
-  alone = h.alone;
-  agrees = λ args count all. ends_decide (map places rows) (source_outcome contract [] h.function args) (run_end (instructions rows) args) (h.agrees args count all);
-}
+-- what is claimed of one run
+abbrev RunClaim : Contract Slot Ty → List Instr → ℕ → ℕ → List (List ℕ) → Function Slot Ty → List (List ℕ) → World → Type 0
+RunClaim contract code functions chosen ctor function args world =
+    AgreesAlone (source_outcome contract ctor function args world) (run_outcome code (ctor ++ handed_in functions chosen args))
+
+pub decides : (contract : Contract Slot Ty) (rows : List Spanned) → AgreesByRun contract rows → DecidesByRun contract (instructions rows)
+decides contract rows h ctor chosen function args world ctor_count found count ctor_elements elements =
+    let none = no_elements ctor (ctor_count ∙ ap length h.alone) in
+    let same = only_one h.function function chosen (ap (λ (fs : List (Function Slot Ty)). slice_get fs chosen) (sym h.only) ∙ found) in
+    let args_count : length args ≡ length h.function.params = count ∙ ap (λ (f : Function Slot Ty). length f.params) (sym same) in
+    let one = ends_decide (map places rows) (source_outcome contract [] h.function args world) (run_end (instructions rows) args) (h.agrees args world args_count elements) in
+    subst (λ (fs : List (Function Slot Ty)). RunClaim contract (instructions rows) (length fs) chosen ctor function args world) (sym h.only)
+    (subst (λ (f : Function Slot Ty). RunClaim contract (instructions rows) 1 chosen ctor f args world) same
+    (subst (λ (c : List (List ℕ)). RunClaim contract (instructions rows) 1 chosen c h.function args world) (sym none) one))
+
+-- ---- what the machine accepts
+
+-- an outcome that agrees with a run is accepted exactly where the run is met
+accepts_exactly : (rows : List SpanRow) (before : ℕ) (outcome : MachineOutcome) (run : SourceOutcome) → Agrees rows before outcome run → (outcome ≡ Accepted) ↔ (run ≡ Met)
+accepts_exactly rows before Accepted Met agrees = (λ is. refl, λ is. refl)
+accepts_exactly rows before (Refused Redeem at cause) (Failed span fault) agrees = (λ is. absurd cc, λ is. absurd cc)
+accepts_exactly rows before (Refused script.Unlocking at cause) run agrees = absurd agrees
+accepts_exactly rows before (Refused script.Locking at cause) run agrees = absurd agrees
+accepts_exactly rows before (Refused Redeem at cause) Met agrees = absurd agrees
+accepts_exactly rows before Accepted (Failed span fault) agrees = absurd agrees
+
+pub correct_code_decides : (source : List ℕ) (contract : Contract Slot Ty) (program : Artifact) → IsCorrect source contract program → Decides contract program.code
+correct_code_decides source contract program h ctor chosen function args frame verdicts admits within table =
+    accepts_exactly h.rows (length ctor) (spend_outcome (spending_context contract program.code ctor chosen args frame) verdicts)
+    (source_outcome contract ctor function args (spending_world contract program.code ctor chosen args frame verdicts))
+    (h.agrees ctor chosen function args frame verdicts admits within table)
+
+-- what agrees with a run is no refusal for a limit, since a run of a source knows none
+same_cause_limit : (cause : MachineCause) (fault : Cause) → IsSameCause cause fault → is_limit cause ≡ false
+same_cause_limit cause fault (inl is) = ap is_limit is
+same_cause_limit cause fault (inr is) = ap is_limit is.0
+
+no_limit : (rows : List SpanRow) (before : ℕ) (outcome : MachineOutcome) (run : SourceOutcome) → Agrees rows before outcome run → is_limited outcome ≡ false
+no_limit rows before Accepted run agrees = refl
+no_limit rows before (Refused Redeem at cause) (Failed span fault) agrees = same_cause_limit cause fault agrees.1
+no_limit rows before (Refused script.Unlocking at cause) run agrees = absurd agrees
+no_limit rows before (Refused script.Locking at cause) run agrees = absurd agrees
+no_limit rows before (Refused Redeem at cause) Met agrees = absurd agrees
+
+pub correct_code_meets_none : (source : List ℕ) (contract : Contract Slot Ty) (program : Artifact) → IsCorrect source contract program → MeetsNoLimit contract program.code
+correct_code_meets_none source contract program h ctor chosen function args frame verdicts admits within table =
+    no_limit h.rows (length ctor) (spend_outcome (spending_context contract program.code ctor chosen args frame) verdicts)
+    (source_outcome contract ctor function args (spending_world contract program.code ctor chosen args frame verdicts))
+    (h.agrees ctor chosen function args frame verdicts admits within table)
 
 -- ---- a program of such rows
 
@@ -287,7 +339,6 @@ program_correct law cut end front meant judged source contract rows program acce
       describes = described source contract program (map places rows) (names_are_texts cut judged source contract accepted) describes;
       spelled = subst (λ (c : List Instr). IsTrue (are_instructions c)) (sym code) h.spelled;
       agrees = subst (λ (c : List Instr). SpendsAgree contract c (map places rows)) (sym code) (spends_agree law reads contract rows h few);
-      decides = subst (λ (c : List Instr). DecidesByRun contract c) (sym code) (decides contract rows h);
     }
 
 -- each function has as few parameters as those of its contract

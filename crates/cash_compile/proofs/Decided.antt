@@ -16,17 +16,17 @@ use Rattle.cash_tree.specs.declared.Contract.{Contract}
 use Rattle.source_meaning.specs.declared.outcome.Failure as source
 use Rattle.source_meaning.specs.declared.outcome.SourceOutcome.{SourceOutcome}
 use Rattle.source_meaning.specs.Meaning.{Env, value_of, checked, fails, with_values, no_values, ended, env_after_kind, env_after_all, source_outcome}
+use Rattle.tx_context.specs.World.{World}
 use Rattle.script_codec.specs.declared.spans.Spanned.{Spanned}
 use Rattle.script_codec.specs.Spelling.{are_instructions}
-use Rattle.bch_vm.specs.declared.failure.Failure.{Failure}
 use Rattle.bch_vm.specs.Stack.{Stack}
-use Rattle.bch_vm.specs.Script.{State, Progress, state, beginning, run, balanced, run_end}
+use Rattle.bch_vm.specs.Script.{State, Progress, state, beginning, run, balanced, run_end, Failure}
 use Rattle.span_map.specs.declared.SpanRow.{SpanRow}
 use Rattle.span_map.specs.Places.{place_in, place_of}
 use Rattle.cash_parser.specs.Inside.{IsInside}
 use Rattle.cash_compile.specs.Describes.{IsRowInside}
 use Rattle.cash_compile.specs.Rows.{RowFailure, run_rows, row, doings, instructions, places, is_span, are_rows_of, is_plain, code_size, AreFew}
-use Rattle.cash_compile.specs.Decides.{EndsAs, AgreesByRun}
+use Rattle.cash_compile.specs.Runs.{EndsAs, AgreesByRun}
 use Rattle.source_meaning.specs.Runnable.{HaveSlotsFrom, env_of}
 use Rattle.source_meaning.proofs.Slots.{with_values-env_of}
 use Rattle.cash_compile.specs.Emission.{HoldsArgs, IsEmittable, Leaves, Follows, told_of, ArePlaced, IsKindInside, IsStatementInside, IsContractInside}
@@ -172,9 +172,9 @@ ends statement rows args env (Err failure) end outcome all last (r, is, place) w
     (inl (0 + ran.0, refl, there))
 
 -- the run of the source, where the one statement is a require
-outcome_is : (contract : Contract Slot Ty) (h : IsEmittable contract) (args : List (List ℕ)) →
-    source_outcome contract [] h.function args ≡ ended ((value_of h.value (with_values h.function.params args no_values) >>= λ v. checked h.statement.span v (with_values h.function.params args no_values)) >>= λ next. Ok next)
-outcome_is contract h args =
+outcome_is : (contract : Contract Slot Ty) (h : IsEmittable contract) (args : List (List ℕ)) (world : World) →
+    source_outcome contract [] h.function args world ≡ ended ((value_of h.value (with_values h.function.params args no_values) >>= λ v. checked h.statement.span v (with_values h.function.params args no_values)) >>= λ next. Ok next)
+outcome_is contract h args world =
     let env = with_values h.function.params args no_values in
     ap (λ ps. ended (env_after_all h.function.body (with_values h.function.params args (with_values ps [] no_values)))) h.alone
     ∙ ap (λ body. ended (env_after_all body env)) h.body
@@ -187,12 +187,12 @@ decided contract h rows all follows is belong some = record {
   alone = h.alone;
   few = h.few;
   spelled = all_spelled h.statement.span all belong;
-  agrees = λ args count elements.
+  agrees = λ args world count elements.
       let env = with_values h.function.params args no_values in
       let left = all_left h.statement.span args rows (value_of h.value env) (follows.runs [] args env beginning refl count (holds_args h.function.params args h.slots count)) in
       let same : whole h.statement.span (length args) rows ≡ all = ap (λ (n : ℕ). whole h.statement.span n rows) count ∙ sym is in
       let left' = subst (λ (l : List Spanned). Leaves [] (value_of h.value env) (run_rows l (state args beginning))) same left in
-      subst (λ (o : SourceOutcome). EndsAs (map places all) o (run_end (instructions all) args)) (sym (outcome_is contract h args))
+      subst (λ (o : SourceOutcome). EndsAs (map places all) o (run_end (instructions all) args)) (sym (outcome_is contract h args world))
       (ends h.statement.span all args env (value_of h.value env) (run_rows all (state args beginning)) (run (instructions all) (state args beginning)) belong
       (λ s e. let within = last_within all s (length all - 1) (state args beginning) e (omega arith) (omega (arith, some)) in omega (arith, within, some))
       left' (located all (state args beginning)));

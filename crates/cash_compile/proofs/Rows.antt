@@ -5,9 +5,8 @@ use Rattle.std.proofs.lemmas.Bool.{false≢true}
 use Rattle.cash_base.specs.declared.fault.MachineCause.{MachineCause}
 use Rattle.cash_base.specs.Failing.{◌>>=◌}
 use Rattle.script_codec.specs.declared.spans.Spanned.{Spanned}
-use Rattle.bch_vm.specs.declared.failure.Failure.{Failure}
 use Rattle.bch_vm.specs.Board.{Board, board_after, is_effective}
-use Rattle.bch_vm.specs.Script.{State, state_after, passed, progress_after, run}
+use Rattle.bch_vm.specs.Script.{State, state_after, passed, progress_after, run, Failure}
 use Rattle.cash_compile.specs.Rows.{RowFailure, failed_at, run_rows, instructions}
 
 -- ---- rows in turn

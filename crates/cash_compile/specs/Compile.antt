@@ -1,5 +1,5 @@
 -- Which sources are accepted, and which are refused: what each stage wants of a source, and the first stage that gives nothing.
-use Rattle.std.specs.Prelude.{◌≡◌, ◌≢◌, ℕ, ◌<◌, ◌≤◌, true, false, List, length, Some, None, IsSomeAnd, Ok, Err}
+use Rattle.std.specs.Prelude.{◌≡◌, ◌≢◌, ℕ, ◌<◌, ◌≤◌, true, false, List, length, Some, None, Ok, Err}
 use Rattle.std.specs.Str.{IsUtf8}
 use Rattle.std.specs.Str.Lossy.{utf8_valid_len}
 use Rattle.cash_base.specs.declared.place.Slot.{Slot}
@@ -22,8 +22,7 @@ use Rattle.artifact_json.specs.Artifact.{Artifact}
 use Rattle.cash_compile.specs.declared.refusal.Refusal.{Refusal}
 use Rattle.cash_compile.specs.declared.refusal.Refusal.TheVariants.{SourceTooLong, NotUtf8, Lex, Parse, Name, Typing, NotBuilt, Memory}
 use Rattle.cash_compile.specs.Form.{is_equality}
-use Rattle.cash_compile.specs.Describes.{no_time}
-use Rattle.cash_compile.specs.Emission.{ArePlaced}
+use Rattle.cash_compile.specs.Runs.{DecidesByRun}
 use Rattle.cash_compile.specs.Correct.{IsCorrect}
 
 -- ---- the stages
@@ -66,15 +65,14 @@ pub record IsAccepted (source : List ℕ) (contract : Contract Slot Ty) : Type 0
   pub typed : HasTypes source contract
   pub formed : is_equality contract ≡ true
 
--- The source stands for the contract, the program is correct for it, and its code can be pushed as one element: nothing
--- stands before it in a redeem script so far, since no contract of the form has parameters of its own. Each row has its place,
--- whether it can fail or not. The program tells no time.
+-- The source stands for the contract, the program is correct for it, the runs of its code alone decide as those of the source,
+-- and its code can be pushed as one element: nothing stands before it in a redeem script so far, since no contract of the form
+-- has parameters of its own.
 pub record IsCompiled (source : List ℕ) (contract : Contract Slot Ty) (program : Artifact) : Type 0 where
   pub accepted : IsAccepted source contract
   pub correct : IsCorrect source contract program
+  pub decides : DecidesByRun contract program.code
   pub fits : length (spellings program.code) ≤ 520
-  pub placed : IsSomeAnd program.spans (λ rows. ArePlaced contract rows)
-  pub updated : program.updated ≡ no_time
 
 -- ---- the refusals
 

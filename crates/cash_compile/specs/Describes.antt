@@ -1,5 +1,5 @@
 -- How a program tells of the contract that it was compiled from.
-use Rattle.std.specs.Prelude.{◌≡◌, ℕ, List, length, codes, map, Some}
+use Rattle.std.specs.Prelude.{◌≡◌, ℕ, List, length, map, Some}
 use Rattle.std.specs.List.{AllByRecursion}
 use Rattle.std.specs.Str.Lossy.{utf8_lossy}
 use Rattle.cash_base.specs.declared.place.Slot.{Slot}
@@ -38,10 +38,6 @@ pub record DescribesBy (name_at : Span → List ℕ) (text : List ℕ) (contract
 -- the program describes the contract of a text: its names are the text at the contract's places
 abbrev pub Describes : List ℕ → Contract Slot Ty → Artifact → List SpanRow → Type 0
 Describes text contract program rows = DescribesBy (text_at text) text contract program rows
-
--- when a program was compiled, where nothing else is said
-abbrev pub no_time : List ℕ
-no_time = codes "1970-01-01T00:00:00.000Z"
 
 -- the text at a place, with a sign of replacement for what isn't UTF-8
 abbrev pub lossy_at : List ℕ → Span → List ℕ

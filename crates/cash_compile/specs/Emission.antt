@@ -29,8 +29,8 @@ use Rattle.cash_compile.specs.Rows.{RowFailure, run_rows, places}
 
 -- the most nodes of an expression: its code has at most two instructions for each, of at most 7 bytes for each and 6 more, and
 -- so stays within the 201 opcodes and the 520 bytes of a redeem script
-abbrev pub most_nodes : ℕ
-most_nodes = 64
+abbrev pub most_emitted_nodes : ℕ
+most_emitted_nodes = 64
 
 -- one function without constructor parameters, whose one statement is a require
 pub record IsEmittable (contract : Contract Slot Ty) : Type 0 where
@@ -44,7 +44,7 @@ pub record IsEmittable (contract : Contract Slot Ty) : Type 0 where
   pub few : length function.params ≤ 16
   pub slots : HaveSlotsFrom 0 function.params
   pub runnable : IsRunnable (length function.params) value
-  pub small : nodes value ≤ most_nodes
+  pub small : nodes value ≤ most_emitted_nodes
 
 -- ---- where emitted code has its places
 

@@ -3,7 +3,7 @@
 -- The form: no parameter of the constructor; one function with at most 16 parameters, each an int, in the slots from 0
 -- in order; its body requires that two operands are equal. An operand is one of the parameters, or a number of at most
 -- 16, its unit counted in. Pragmas, names and types were judged before.
-use Rattle.std.specs.Prelude.{ℕ, ◌+◌, ◌*◌, ◌==◌, nat_le, nat_lt, Bool, true, false, ◌&&◌, List, [], ◌∷◌, length}
+use Rattle.std.specs.Prelude.{◌≡◌, ℕ, ◌+◌, ◌*◌, ◌==◌, nat_le, nat_lt, Bool, true, false, ◌&&◌, List, [], ◌∷◌, length}
 use Rattle.cash_base.specs.declared.place.Slot.{Slot}
 use Rattle.cash_tree.specs.declared.Ty.{Ty}
 use Rattle.cash_tree.specs.declared.Contract.{Contract}
@@ -72,3 +72,9 @@ is_alone params _ = false
 
 unfoldable pub is_equality : Contract Slot Ty → Bool
 is_equality contract = is_alone contract.params contract.functions
+
+-- what the form has of a contract's shape: one function, and no parameters of the constructor
+pub record HasOneFunction (contract : Contract Slot Ty) : Type 0 where
+  pub function : Function Slot Ty
+  pub only : contract.functions ≡ function ∷ []
+  pub alone : contract.params ≡ []

@@ -1,7 +1,7 @@
 pub mod Compile
 pub mod Correct
-pub mod Decides
 pub mod Describes
 pub mod Emission
 pub mod Form
 pub mod Rows
+pub mod Runs

@@ -9,8 +9,7 @@ use Rattle.script_codec.specs.declared.spans.Spanned.{Spanned}
 use Rattle.script_codec.specs.declared.instr.Instr.TheVariants.{Push, Do}
 use Rattle.script_codec.specs.Spelling.{is_instruction, spellings}
 use Rattle.script_codec.specs.Counting.{takes_keys}
-use Rattle.bch_vm.specs.declared.failure.Failure.{Failure}
-use Rattle.bch_vm.specs.Script.{State, state_after}
+use Rattle.bch_vm.specs.Script.{State, state_after, Failure}
 use Rattle.span_map.specs.declared.SpanRow.{SpanRow}
 
 -- ---- rows

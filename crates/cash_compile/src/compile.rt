@@ -6,14 +6,15 @@ ghost use Rattle.cash_base.specs.declared.place.Slot.{Slot};
 ghost use Rattle.cash_tree.specs.declared.Ty.{Ty};
 ghost use Rattle.cash_tree.specs.declared.Contract.{Contract as CashContract};
 ghost use Rattle.script_codec.specs.Spelling.{spellings};
-ghost use Rattle.artifact_json.specs.Artifact.{HasFewInputs};
+ghost use Rattle.artifact_json.specs.Artifact.{Artifact, HasFewInputs};
 ghost use Rattle.cash_compile.specs.declared.refusal.Refusal.{Refusal as Cause};
 ghost use Rattle.cash_compile.specs.declared.refusal.Refusal.TheVariants.{Memory as WithoutMemory};
 ghost use Rattle.cash_compile.specs.Rows.{places, AreFew};
-ghost use Rattle.cash_compile.specs.Describes.{IsRowInside, no_time};
-ghost use Rattle.cash_compile.specs.Decides.{AgreesByRun};
+ghost use Rattle.cash_compile.specs.Form.{HasOneFunction};
+ghost use Rattle.cash_compile.specs.Describes.{IsRowInside};
+ghost use Rattle.cash_compile.specs.Runs.{DecidesByRun, AgreesByRun};
 ghost use Rattle.cash_compile.specs.Emission.{ArePlaced};
-ghost use Rattle.cash_compile.specs.Correct.{IsCorrect};
+ghost use Rattle.cash_compile.specs.Correct.{Decides, MeetsNoLimit, IsCorrect};
 ghost use Rattle.cash_compile.specs.Compile.{IsAccepted, IsCompiled, IsRefused, AreSame};
 
 use crate::describe::program_of;
@@ -40,7 +41,8 @@ pub struct Compiled {
     pub contract: TypedContract,
 }
 
-/// The contract that a source stands for, and a program that is correct for it, of at most 520 bytes of code.
+/// The contract that a source stands for, and a program that is correct for it, of at most 520 bytes of code. The program
+/// tells `updated` as the time of its compilation.
 ///
 /// Each spend that is built of the program ends as the run of the source: accepted where the run is met, and otherwise
 /// refused in the redeem script, with the cause and at the place of the run's failure. The places of all instructions
@@ -48,9 +50,11 @@ pub struct Compiled {
 /// [`Refusal`]: the length, UTF-8, the tokens, how deep they nest, the tree, its pragmas and names, its types, and the
 /// form that is built so far. Memory may be wanting at any time.
 #[tactic(auto, using(crate::proofs::Accepted::equality_emittable))]
-pub fn compile(alloc: Global, source: &[u8]) -> Result<Compiled, Refusal>
+pub fn compile(alloc: Global, source: &[u8], updated: &str) -> Result<Compiled, Refusal>
     requires { length source.now < 2 ^ 32 }
     ensures compiled { IfOk result (λ compiled. IsCompiled source.now compiled.contract compiled.program) }
+    ensures updated { IfOk result (λ compiled. compiled.program.updated ≡ updated.now) }
+    ensures placed { IfOk result (λ compiled. IsSomeAnd compiled.program.spans (ArePlaced compiled.contract)) }
     ensures few { IfOk result (λ compiled. HasFewInputs compiled.program) }
     ensures refused { IfErr result (λ refusal. refusal ≢ WithoutMemory → IsRefused source.now refusal) }
 {
@@ -61,7 +65,7 @@ pub fn compile(alloc: Global, source: &[u8]) -> Result<Compiled, Refusal>
         });
     }
     let rows = emit(alloc, &contract)?;
-    let program = correct_program(alloc, source, &contract, rows)?;
+    let program = correct_program(alloc, source, updated, &contract, rows)?;
     Ok(Compiled { program, contract })
 }
 
@@ -69,6 +73,7 @@ pub fn compile(alloc: Global, source: &[u8]) -> Result<Compiled, Refusal>
 fn correct_program(
     alloc: Global,
     source: &[u8],
+    updated: &str,
     contract: &TypedContract,
     rows: Vec<Spanned>,
 ) -> Result<Program, Memory>
@@ -78,9 +83,10 @@ fn correct_program(
     requires placed { ArePlaced contract.now (map places rows.items) }
     requires inside { AllByRecursion (IsRowInside (length source.now)) (map places rows.items) }
     ensures correct { IfOk result (λ program. IsCorrect source.now contract.now program) }
+    ensures decides { IfOk result (λ program. DecidesByRun contract.now program.code) }
     ensures fits { IfOk result (λ program. length (spellings program.code) ≤ 520) }
     ensures placed { IfOk result (λ program. IsSomeAnd program.spans (ArePlaced contract.now)) }
-    ensures updated { IfOk result (λ program. program.updated ≡ no_time) }
+    ensures updated { IfOk result (λ program. program.updated ≡ updated.now) }
     ensures few { IfOk result (λ program. HasFewInputs program) }
 {
     tokens_cut_the_source();
@@ -89,9 +95,27 @@ fn correct_program(
     reading_in_turn();
     reading_behind_encoded();
     meaning_of_spelled();
-    let program = program_of(alloc, source, contract, rows)?;
+    let program = program_of(alloc, source, updated, contract, rows)?;
     Ok(program)
 }
+
+/// Of the spends of correct code the machine accepts exactly those whose runs are met.
+pub fn correct_decides()
+    ensures { (source : List ℕ) (contract : CashContract Slot Ty) (program : Artifact) →
+        IsCorrect source contract program → Decides contract program.code }
+{}
+
+/// No spend of correct code comes to a limit of the machine: none is refused for the size of a script or of a push, or for the
+/// number of opcodes or of elements.
+pub fn no_limit_is_met()
+    ensures { (source : List ℕ) (contract : CashContract Slot Ty) (program : Artifact) →
+        IsCorrect source contract program → MeetsNoLimit contract program.code }
+{}
+
+/// A contract that is accepted so far has one function, and no parameters of its own.
+pub fn one_function()
+    ensures { (source : List ℕ) (contract : CashContract Slot Ty) → IsAccepted source contract → HasOneFunction contract }
+{}
 
 /// A source stands for at most one contract.
 pub fn one_contract()

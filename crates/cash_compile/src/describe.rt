@@ -5,7 +5,7 @@ ghost use Rattle.std.specs.List.{AllByRecursion};
 ghost use Rattle.std.specs.Str.{IsUtf8};
 ghost use Rattle.script_codec.specs.Spelling.{are_instructions};
 ghost use Rattle.cash_compile.specs.Rows.{instructions, places};
-ghost use Rattle.cash_compile.specs.Describes.{IsRowInside, lossy_at, described_param, described_function, no_time, DescribesBy};
+ghost use Rattle.cash_compile.specs.Describes.{IsRowInside, lossy_at, described_param, described_function, DescribesBy};
 
 use artifact_json::{AbiFunction, AbiInput, Program};
 use cash_base::{Memory, Slot, Span, text_at};
@@ -14,14 +14,12 @@ use script_codec::{Instr, Spanned};
 use span_map::SpanRow;
 use std::alloc::Global;
 
-/// When a program was compiled, where nothing else is said.
-const NO_TIME: &str = "1970-01-01T00:00:00.000Z";
-
-/// The program of a contract, with the rows of its code.
+/// The program of a contract, with the rows of its code and the time of its compilation.
 #[tactic(auto, using(crate::proofs::Correct::text_kept))]
 pub fn program_of(
     alloc: Global,
     source: &[u8],
+    updated: &str,
     contract: &TypedContract,
     rows: Vec<Spanned>,
 ) -> Result<Program, Memory>
@@ -29,7 +27,7 @@ pub fn program_of(
     requires utf8 { IsUtf8 source.now }
     requires inside { AllByRecursion (IsRowInside (length source.now)) (map places rows.items) }
     ensures code { IfOk result (λ program. program.code ≡ instructions rows.items) }
-    ensures updated { IfOk result (λ program. program.updated ≡ no_time) }
+    ensures updated { IfOk result (λ program. program.updated ≡ updated.now) }
     ensures describes { IfOk result (λ program.
         DescribesBy (lossy_at source.now) source.now contract.now program (map places rows.items)) }
 {
@@ -37,7 +35,7 @@ pub fn program_of(
     let abi = functions_of(alloc, source, contract.functions.as_slice())?;
     let name = name_of(alloc, source, contract.name)?;
     let text = String::from_utf8_lossy(alloc, source)?;
-    let updated = String::from_str(alloc, NO_TIME)?;
+    let updated = String::from_str(alloc, updated)?;
     let CodeAndPlaces { code, spans } = split(alloc, rows)?;
     Ok(Program {
         code,

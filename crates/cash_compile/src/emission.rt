@@ -8,7 +8,7 @@ ghost use Rattle.source_meaning.specs.Runnable.{has_meaning, is_runnable, nodes}
 ghost use Rattle.script_codec.specs.declared.instr.Instr.TheVariants.{Push, Do};
 ghost use Rattle.script_codec.specs.Spelling.{spelling};
 ghost use Rattle.cash_compile.specs.Rows.{row, doings, places, code_size, is_plain, are_rows_of, AreFew};
-ghost use Rattle.cash_compile.specs.Decides.{AgreesByRun};
+ghost use Rattle.cash_compile.specs.Runs.{AgreesByRun};
 ghost use Rattle.cash_compile.specs.Emission.{Emits, IsEmittable, ArePlaced, kind_told, told_of};
 
 use cash_base::{Element, Slot, Span, write_number};
@@ -161,7 +161,9 @@ impl Emitter {
 /// The rows of a contract with one function: its parameters stand on the stack, the first on top.
 ///
 /// Each operand is pushed or copied, the comparison is left as the only element. A row's `checking` is the span of the
-/// statement, and its `doing` that of the operand or comparison; what drops a parameter has the statement's as both.
+/// statement, and its `doing` that of the operand or comparison; what drops a parameter has the statement's as both. The
+/// contract has no parameters of its own and one function, of at most 16 parameters in the slots from 0, whose one statement is
+/// a `require` of `==` over parameters and literals below 2^63, of at most 64 nodes. The only error is that memory ran out.
 #[tactic(auto, using(crate::proofs::Decided::decided))]
 pub fn emit(alloc: Global, contract: &TypedContract) -> Result<Vec<Spanned>, AllocError>
     requires { IsEmittable contract.now }

@@ -73,13 +73,8 @@ fn tree_of(alloc: Global, text: &str) -> Result<Tree, Refusal>
     }
 }
 
-/// The named tree of a source.
-///
-/// # Errors
-///
-/// The refusal of the first stage that gives nothing: `SourceTooLong`, `NotUtf8`, `Lex`, `Parse` and `Name`, each
-/// exactly where its cause stands in the source, or `Memory`, where memory ran out.
-pub fn named_tree_of(alloc: Global, source: &[u8]) -> Result<NamedTree, Refusal>
+/// The named tree of a source, or the refusal of the first stage that gives nothing.
+fn named_tree_of(alloc: Global, source: &[u8]) -> Result<NamedTree, Refusal>
     requires { length source.now < 2 ^ 32 }
     ensures named { IfOk result (λ named. HasNames source.now named) }
     ensures inside { IfOk result (λ named. (contract : CashContract Slot Ty) → untyped_contract contract ≡ named
@@ -101,8 +96,8 @@ pub fn named_tree_of(alloc: Global, source: &[u8]) -> Result<NamedTree, Refusal>
 ///
 /// # Errors
 ///
-/// The refusal of the first stage that gives nothing: those of [`named_tree_of`], and then `Typing`, exactly where the
-/// rules of types refuse a node, or `Memory`, where memory ran out.
+/// The refusal of the first stage that gives nothing: `SourceTooLong`, `NotUtf8`, `Lex`, `Parse`, `Name` and `Typing`, each
+/// exactly where its cause stands in the source, or `Memory`, where memory ran out.
 pub fn typed_contract_of(alloc: Global, source: &[u8]) -> Result<TypedContract, Refusal>
     requires { length source.now < 2 ^ 32 }
     ensures typed { IfOk result (λ contract. HasTypes source.now contract) }

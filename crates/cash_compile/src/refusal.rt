@@ -13,9 +13,9 @@ use type_check::TypeFault;
 /// Why a source isn't compiled: the first stage that gives nothing, in this order.
 #[derive(Debug, Drop)]
 pub enum Refusal {
-    /// It is longer than 65,536 bytes: it has so many.
+    /// It has this number of bytes, more than 65,536.
     SourceTooLong { bytes: u32 },
-    /// It isn't UTF-8; its longest front that is has so many bytes.
+    /// It isn't UTF-8; its longest valid prefix has this number of bytes.
     NotUtf8 { at: u32 },
     /// It has no tokens. The fault is never want of memory.
     Lex(LexFault),

@@ -6,14 +6,15 @@ ghost use Rattle.script_codec.specs.Spelling.{are_instructions};
 
 use crate::compile::{Compiled, compile};
 use crate::reading::MAX_SOURCE_LEN;
+use artifact_json::Program;
 use bch_vm::{Machine, MachineOutcome};
-use cash_base::{Element, Memory};
-use element_ops::{Op1, apply1};
-use script_codec::{Instr, encode};
+use cash_base::element::copy_of;
+use cash_base::{Element, MAX_ELEMENT_LEN};
 use source_meaning::{SourceOutcome, SourceRoom};
 use std::alloc::Global;
 use std::test::Fail;
 use tx_context::{Bytecode, Context, Frame, Input, Verdicts, fill};
+use unlocker::{locking, redeem, unlocking};
 
 const SOURCES: [&str; 4] = [
     "contract S() { function f(int x, int y) { require(x == y); } }",
@@ -53,38 +54,25 @@ fn compiled_of(alloc: Global, source: &str) -> Result<Compiled, Fail>
     if source.len() > MAX_SOURCE_LEN {
         return Err("it isn't too long".into());
     }
-    let compiled = compile(alloc, source.as_bytes())?;
+    let compiled = compile(alloc, source.as_bytes(), "")?;
     match compiled.contract.functions.get(0) {
         Some(function) if function.params.len() == 2 => Ok(compiled),
         _ => Err("it has two parameters".into()),
     }
 }
 
-fn element(bytes: &[u8]) -> Element {
-    let mut element = Element::new();
-    let _ = element.try_extend_from_slice(bytes);
-    element
-}
-
-fn push_of(alloc: Global, bytes: &[u8]) -> Result<Vec<u8>, Memory> {
-    encode(alloc, &[Instr::Push(element(bytes))])
-}
-
-// The code is the redeem script; the first argument lies below it, and the second below that.
-fn context_of(alloc: Global, code: &[u8], x: &[u8], y: &[u8]) -> Result<Context, Fail> {
-    let pushes = [
-        push_of(alloc, y)?,
-        push_of(alloc, x)?,
-        push_of(alloc, code)?,
-    ];
-    let mut unlocking = Vec::new(alloc);
-    for push in &pushes {
-        unlocking.extend_from_slice(push.as_slice())?;
+fn element(bytes: &[u8]) -> Result<Element, Fail> {
+    if bytes.len() > MAX_ELEMENT_LEN {
+        return Err("an element has at most 520 bytes".into());
     }
-    let Ok(digest) = apply1(Op1::Hash160, element(code).as_slice()) else {
-        return Err("each element has a digest".into());
-    };
-    let locking = [b"\xa9\x14".as_slice(), digest.as_slice(), b"\x87"].concat(alloc)?;
+    Ok(copy_of(bytes))
+}
+
+// The code is the redeem script, which is called with these arguments.
+fn context_of(alloc: Global, program: &Program, args: &[Element]) -> Result<Context, Fail> {
+    let redeem = redeem(alloc, program, &[])?;
+    let unlocking = unlocking(alloc, program, 0, args, redeem.as_slice())?;
+    let locking = locking(redeem.as_slice());
     let input = Input {
         hash: [0; 32],
         index: 0,
@@ -95,13 +83,11 @@ fn context_of(alloc: Global, code: &[u8], x: &[u8], y: &[u8]) -> Result<Context,
     };
     let mut inputs = Vec::new(alloc);
     inputs.push(input)?;
-    if inputs.len() > 1000 || locking.len() > 20_000 || unlocking.len() > 20_000 {
+    let frame = Frame::new(2, 0, inputs, Vec::new(alloc), 0)?;
+    if unlocking.len() > 20_000 {
         return Err("it is within the limits".into());
     }
-    match Frame::new(2, 0, inputs, Vec::new(alloc), 0) {
-        Ok(frame) => Ok(fill(alloc, &frame, &locking, &unlocking)?),
-        Err(_) => Err("it is within the limits".into()),
-    }
+    Ok(fill(alloc, &frame, &locking, unlocking.as_slice())?)
 }
 
 #[test]
@@ -114,16 +100,16 @@ fn code_decides_as_its_source(rt: HostRuntime) -> Result<(), Fail> {
     };
     for (i, source) in SOURCES.iter().enumerate() {
         let compiled = compiled_of(alloc, source)?;
-        let code = encode(alloc, compiled.program.code.as_slice())?;
         for ([x, y], met) in PAIRS {
             let met = met.get(i).copied();
-            let outcome = room.run(&compiled.contract, &[], 0, &[element(x), element(y)]);
+            let args = [element(x)?, element(y)?];
+            let outcome = room.run(&compiled.contract, &[], 0, &args);
             assert_eq!(rt;
                 Some(outcome == SourceOutcome::Met),
                 met,
                 "{source} on {x:?} {y:?}"
             );
-            let context = context_of(alloc, &code, x, y)?;
+            let context = context_of(alloc, &compiled.program, &args)?;
             let decided = machine.spend(&context, &verdicts) == MachineOutcome::Accepted;
             assert_eq!(rt; Some(decided), met, "{source} on {x:?} {y:?}");
         }

@@ -74,7 +74,7 @@ exponent_len text =
 unfoldable pub number_value : List ℕ → List ℕ → ℕ
 number_value digits exponent = decimal digits * 10 ^ decimal exponent
 
--- a number of less than 128 bits
+-- a number of at most 128 bits
 abbrev pub narrow : ℕ → Option ℕ
 narrow n = if nat_lt n (2 ^ 128) then Some n else None
 

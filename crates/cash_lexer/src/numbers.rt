@@ -86,7 +86,7 @@ pub fn version(text: &[u8]) -> Option<Piece>
     Some(Piece::Known(TokenKind::Version, len))
 }
 
-/// The number that decimal digits spell, if it has less than 128 bits.
+/// The number that decimal digits spell, if it has at most 128 bits.
 #[tactic(auto, using(crate::proofs::Values::too_wide, crate::proofs::Values::whole_value))]
 fn decimal(digits: &[u8]) -> Option<u128>
     ensures { result ≡ narrow (decimal digits.now) }
@@ -114,7 +114,7 @@ fn exponent_len(text: &[u8]) -> usize
     }
 }
 
-/// The number of these digits times ten to the power of those, if it has less than 128 bits.
+/// The number of these digits times ten to the power of those, if it has at most 128 bits.
 ///
 /// No power above 10^38 is computed.
 #[tactic(auto, using(crate::proofs::Values::zero_value, crate::proofs::Values::power_value, crate::proofs::Values::power_fits, crate::proofs::Values::wide_digits, crate::proofs::Values::wide_power, crate::proofs::Values::wider_power))]

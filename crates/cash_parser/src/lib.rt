@@ -11,8 +11,6 @@ mod nodes;
 mod parsing;
 mod spans;
 mod statements;
-#[cfg(test)]
-mod tests;
 mod words;
 
 pub use fault::{DepthRule, ParseFault};

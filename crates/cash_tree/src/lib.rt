@@ -104,6 +104,7 @@ pub struct Stmt<N, T> {
     pub span: Span,
 }
 
+/// What a statement says.
 #[cycle(statement)]
 #[derive(Drop)]
 pub enum StmtKind<N, T> {
@@ -155,6 +156,7 @@ pub struct Expr<N, T> {
     pub span: Span,
 }
 
+/// What an expression is.
 #[cycle(expression)]
 #[derive(Drop)]
 pub enum ExprKind<N, T> {

@@ -27,7 +27,7 @@ use Rattle.bch_vm.specs.Law.{locking_script}
 use Rattle.bch_vm.specs.Spend.{spend_outcome}
 use Rattle.span_map.specs.declared.SpanRow.{SpanRow}
 use Rattle.span_map.specs.Lines.{line_col}
-use Rattle.span_map.specs.Places.{place_of}
+use Rattle.span_map.specs.Places.{place_behind}
 use Rattle.artifact_json.specs.Artifact.{Artifact, AbiCall, HasFewInputs}
 use Rattle.unlocker.specs.declared.BuildFault.{BuildFault}
 use Rattle.unlocker.specs.declared.BuildFault.TheVariants.{WrongCount, RedeemTooLong}
@@ -39,13 +39,14 @@ use Rattle.spend_debug.specs.declared.report.InputStop.{InputStop}
 use Rattle.spend_debug.specs.declared.report.InputStop.TheVariants as stops
 use Rattle.spend_debug.specs.SpendLines.{spend_elements}
 use Rattle.spend_debug.specs.SpendDebug.{SpendParts, plain_frame, or_stop, built_scripts, outcome_of, told_of, AreOfCall}
-use Rattle.spend_debug.specs.Telling.{Told, told_place, placed_name, cause_name, verdict_line, failure_line, report_lines, build_stop}
+use Rattle.spend_debug.specs.Telling.{Told, told_place, placed_name, cause_name, verdict_line, failure_line, lines_with, report_lines, build_stop}
+use Rattle.cash_compile.specs.Form.{HasOneFunction}
 use Rattle.cash_compile.specs.Describes.{described_function}
 use Rattle.cash_compile.specs.Compile.{IsCompiled}
-use Rattle.cash_compile.specs.Correct.{Admits, IsSameCause, Agrees, IsCorrect}
+use Rattle.cash_compile.specs.Correct.{Admits, IsSameCause, Agrees, spending_world, IsCorrect}
 use Rattle.cashc.specs.declared.commands.Stop.{Stop}
 use Rattle.cashc.specs.declared.commands.Stop.TheVariants as stopped
-use Rattle.cashc.specs.TopCall.{plain_spend, IsVerdict, IsJudged, IsCountStop, report}
+use Rattle.cashc.specs.TopCall.{plain_spend, IsVerdict, IsJudged, IsCountStop}
 use Rattle.cashc.specs.Answering.{HasInputCause, HasScriptsCause, HasSpendCause, outcome_status, report_status}
 
 -- ---- the program beside its contract
@@ -53,20 +54,20 @@ use Rattle.cashc.specs.Answering.{HasInputCause, HasScriptsCause, HasSpendCause,
 same_call : (a b : AbiCall) (abi : List AbiCall) → abi ≡ a ∷ [] → slice_get abi 0 ≡ Some b → a ≡ b
 same_call a b abi is found = let first : Some a ≡ Some b = ap (λ (l : List AbiCall). slice_get l 0) (sym is) ∙ found in cc
 
-abi_is : (source : List ℕ) (contract : Contract Slot Ty) (program : Artifact) (h : IsCorrect source contract program)
-    → program.abi ≡ described_function (text_at source) h.decides.function ∷ []
-abi_is source contract program h = h.describes.abi ∙ ap (map (described_function (text_at source))) h.decides.only
+abi_is : (source : List ℕ) (contract : Contract Slot Ty) (program : Artifact) (form : HasOneFunction contract) (h : IsCorrect source contract program)
+    → program.abi ≡ described_function (text_at source) form.function ∷ []
+abi_is source contract program form h = h.describes.abi ∙ ap (map (described_function (text_at source))) form.only
 
 -- what a correct program asks for is what its contract does
-pub admitted : (source : List ℕ) (contract : Contract Slot Ty) (program : Artifact) (h : IsCorrect source contract program) (args : List (List ℕ)) (redeem unlocking : List ℕ)
+pub admitted : (source : List ℕ) (contract : Contract Slot Ty) (program : Artifact) (form : HasOneFunction contract) (h : IsCorrect source contract program) (args : List (List ℕ)) (redeem unlocking : List ℕ)
     → AreOfCall program (plain_spend args) redeem unlocking → AllByRecursion IsElement args
-    → Admits contract program.code [] 0 h.decides.function args
-admitted source contract program h args redeem unlocking call elements =
-    let f = h.decides.function in
-    let same = same_call (described_function (text_at source) f) call.function program.abi (abi_is source contract program h) call.found in
+    → Admits contract program.code [] 0 form.function args
+admitted source contract program form h args redeem unlocking call elements =
+    let f = form.function in
+    let same = same_call (described_function (text_at source) f) call.function program.abi (abi_is source contract program form h) call.found in
     record {
-      ctor_count = sym (ap length h.decides.alone);
-      found = ap (λ (fs : List (Function Slot Ty)). slice_get fs 0) h.decides.only;
+      ctor_count = sym (ap length form.alone);
+      found = ap (λ (fs : List (Function Slot Ty)). slice_get fs 0) form.only;
       arg_count = sym call.arg_count ∙ ap (λ (c : AbiCall). length c.inputs) (sym same) ∙ length-map f.params _;
       ctor_elements = tt;
       arg_elements = elements;
@@ -111,19 +112,19 @@ differ : (a b : ℕ) → (a == b) ≡ false → b ≢ a
 differ a b isnt = λ is. false≢true (sym isnt ∙ eq-eqb a b (sym is))
 
 -- of a program that was compiled there are only those that come of the count of the arguments
-pub miscounted : (source : List ℕ) (contract : Contract Slot Ty) (program : Artifact) (h : IsCompiled source contract program) (few : HasFewInputs program)
+pub miscounted : (source : List ℕ) (contract : Contract Slot Ty) (program : Artifact) (form : HasOneFunction contract) (h : IsCompiled source contract program) (few : HasFewInputs program)
     (args : List (List ℕ)) (fault : BuildFault) (stop : InputStop) → length args ≤ 16 → built_scripts program (plain_spend args) ≡ Err (Build fault)
     → build_stop fault ≡ Some stop → IsCountStop contract args stop
-miscounted source contract program h few args fault stop some is told =
+miscounted source contract program form h few args fault stop some is told =
     let correct = h.correct in
-    let f = correct.decides.function in
+    let f = form.function in
     let call = described_function (text_at source) f in
     let redeem = redeem_script program.code [] in
     let s = spending_script (length program.abi) 0 args redeem in
-    let one : program.abi ≡ call ∷ [] = abi_is source contract program correct in
+    let one : program.abi ≡ call ∷ [] = abi_is source contract program form correct in
     let size : length f.params ≡ length call.inputs = sym (length-map f.params _) in
     let inputs : length call.inputs ≤ 16 = (subst (AllByRecursion (λ (c : AbiCall). length c.inputs ≤ 16)) one few).0 in
-    let none : length program.ctor ≡ 0 = ap length correct.describes.ctor ∙ length-map contract.params _ ∙ ap length correct.decides.alone in
+    let none : length program.ctor ≡ 0 = ap length correct.describes.ctor ∙ length-map contract.params _ ∙ ap length form.alone in
     let past = past_redeem (length program.ctor == 0) (nat_le (length redeem) 520) redeem (WrongCount (capped (length program.ctor)) (capped 0))
     (RedeemTooLong (capped (length redeem))) (λ r. or_stop (built_unlocking program 0 args r) >>= λ unlocking. Ok (r, unlocking))
     (eq-eqb (length program.ctor) 0 none) (le-leb (length redeem) 520 h.fits) in
@@ -132,7 +133,7 @@ miscounted source contract program h few args fault stop some is told =
     let counts = by_count (length call.inputs == length args) s redeem (capped (length call.inputs)) (capped (length args)) fault stop called told in
     let wanted : capped (length call.inputs) ≡ length f.params = small (length call.inputs) inputs ∙ sym size in (
       f,
-      correct.decides.only,
+      form.only,
       λ e. differ (length call.inputs) (length args) counts.0 (e ∙ size),
       counts.1 ∙ ap (λ (n : ℕ). stops.WrongCount n (capped (length args))) wanted
           ∙ ap (λ (n : ℕ). stops.WrongCount (length f.params) n) (small (length args) some),
@@ -143,11 +144,11 @@ mapped P Q further (stopped.Refused status text) (is, (s, cause, told)) = (is, (
 mapped P Q further stopped.Unread h = h
 mapped P Q further stopped.Memory h = tt
 
-pub scripts_stopped : (source : List ℕ) (contract : Contract Slot Ty) (program : Artifact) (h : IsCompiled source contract program) (few : HasFewInputs program)
+pub scripts_stopped : (source : List ℕ) (contract : Contract Slot Ty) (program : Artifact) (form : HasOneFunction contract) (h : IsCompiled source contract program) (few : HasFewInputs program)
     (spend : List ℕ) (args : List (List ℕ)) (stop : Stop) → spend_elements spend ≡ Ok args → length args ≤ 16 → HasScriptsCause program args stop
     → HasSpendCause contract spend stop
-scripts_stopped source contract program h few spend args stop read some cause =
-    mapped _ _ (λ s c. inr (args, read, miscounted source contract program h few args c.0 s some c.1 c.2)) stop cause
+scripts_stopped source contract program form h few spend args stop read some cause =
+    mapped _ _ (λ s c. inr (args, read, miscounted source contract program form h few args c.0 s some c.1 c.2)) stop cause
 
 -- ---- the verdict
 
@@ -157,17 +158,15 @@ same_name cause fault (inr is) = ap placed_name is.0 ∙ ap cause_name (sym is.1
 
 -- a refusal at a row of the redeem script is told as a failure at the place of the row
 abbrev ToldAs : List ℕ → List SpanRow → MachineOutcome → Option Span → Type 0
-ToldAs source rows outcome place = (at : ℕ) (cause : MachineCause) (span : Span) (fault : Cause) → outcome ≡ Refused Redeem (0 + at) cause
-    → place_of rows at cause ≡ Some span → placed_name cause ≡ cause_name fault
-    → verdict_line outcome (told_place source place) ≡ failure_line (line_col source span.from) fault (0 + at)
+ToldAs source rows outcome place = (at : ℕ) (cause : MachineCause) (span : Span) (fault : Cause) → outcome ≡ Refused Redeem at cause
+    → place_behind rows 0 at cause ≡ Some span → placed_name cause ≡ cause_name fault
+    → verdict_line outcome (told_place source place) ≡ failure_line (line_col source span.from) fault at
 
 pub verdict_told : (source : List ℕ) (rows : List SpanRow) (run : SourceOutcome) (outcome : MachineOutcome) (place : Option Span) → Agrees rows 0 outcome run
     → ToldAs source rows outcome place → IsVerdict source run outcome (outcome_status outcome) (verdict_line outcome (told_place source place))
 verdict_told source rows Met Accepted place agrees told = (refl, refl)
 verdict_told source rows (Failed span fault) (Refused Redeem at cause) place agrees told =
-    let index : at ≡ 0 + agrees.0.0 = agrees.0.1 in
-    let line = told agrees.0.0 cause span fault (ap (λ (n : ℕ). Refused Redeem n cause) index) agrees.0.2 (same_name cause fault agrees.1) in
-    (refl, line ∙ ap (λ (n : ℕ). failure_line (line_col source span.from) fault n) (sym index))
+    (refl, told at cause span fault refl agrees.0 (same_name cause fault agrees.1))
 verdict_told source rows Met (Refused Unlocking at cause) place agrees told = absurd agrees
 verdict_told source rows Met (Refused Locking at cause) place agrees told = absurd agrees
 verdict_told source rows Met (Refused Redeem at cause) place agrees told = absurd agrees
@@ -180,10 +179,10 @@ verdict_told source rows (Failed span fault) (Refused Locking at cause) place ag
 -- the law of failures: a refusal in the redeem script is told as a failure at the place of its row
 abbrev pub FailureLaw : Type 0
 FailureLaw = (program : Artifact) (spend : SpendParts) (rows : List SpanRow) (at : ℕ) (cause : MachineCause) (span : Span) (fault : Cause) (source : List ℕ)
-    → program.spans ≡ Some rows → outcome_of program spend ≡ Refused Redeem (length spend.ctor + at) cause → place_of rows at cause ≡ Some span
+    → program.spans ≡ Some rows → outcome_of program spend ≡ Refused Redeem at cause → place_behind rows (length spend.ctor) at cause ≡ Some span
     → placed_name cause ≡ cause_name fault
     → verdict_line (told_of program spend).outcome (told_place source (told_of program spend).place)
-    ≡ failure_line (line_col source span.from) fault (length spend.ctor + at)
+    ≡ failure_line (line_col source span.from) fault at
 
 -- the unlocking script and the outcome of a contract of so many functions
 abbrev unlocking_of : Artifact → List (List ℕ) → ℕ → List ℕ
@@ -197,15 +196,15 @@ outcome_with program args functions =
 abbrev pub BuiltLaw : Type 0
 BuiltLaw = (program : Artifact) (spend : SpendParts) (redeem unlocking : List ℕ) → built_scripts program spend ≡ Ok (redeem, unlocking) → AreOfCall program spend redeem unlocking
 
-pub told : (law : FailureLaw) (built_law : BuiltLaw) (source : List ℕ) (contract : Contract Slot Ty) (program : Artifact) (h : IsCorrect source contract program)
+pub told : (law : FailureLaw) (built_law : BuiltLaw) (source : List ℕ) (contract : Contract Slot Ty) (program : Artifact) (form : HasOneFunction contract) (h : IsCorrect source contract program)
     (spend : List ℕ) (args : List (List ℕ)) (redeem unlocking : List ℕ) → spend_elements spend ≡ Ok args → AllByRecursion IsElement args
     → IsFrame plain_frame → IsTable [] → built_scripts program (plain_spend args) ≡ Ok (redeem, unlocking)
     → (t : Told) → t ≡ told_of program (plain_spend args)
     → IsJudged source contract program spend (report_status t) (report_lines source t)
-told law built_law source contract program h spend args redeem unlocking read elements frame table is t same =
-    let f = h.decides.function in
-    let run = source_outcome contract [] f args in
-    let fit = admitted source contract program h args redeem unlocking (built_law program (plain_spend args) redeem unlocking is) elements in
+told law built_law source contract program form h spend args redeem unlocking read elements frame table is t same =
+    let f = form.function in
+    let run = source_outcome contract [] f args (spending_world contract program.code [] 0 args plain_frame []) in
+    let fit = admitted source contract program form h args redeem unlocking (built_law program (plain_spend args) redeem unlocking is) elements in
     let count : length program.abi ≡ length contract.functions = ap length h.describes.abi ∙ length-map contract.functions _ in
     let agrees : Agrees h.rows 0 (outcome_with program args (length program.abi)) run =
     subst (λ (n : ℕ). Agrees h.rows 0 (outcome_with program args n) run) (sym count) (h.agrees [] 0 f args plain_frame [] fit frame table) in
@@ -217,11 +216,11 @@ told law built_law source contract program h spend args redeem unlocking read el
       args = args;
       read = read;
       function = f;
-      only = h.decides.only;
+      only = form.only;
       admitted = fit;
       line = line;
       verdict = subst (λ (n : ℕ). IsVerdict source run (outcome_with program args n) (report_status whole) line) count verdict;
-      shown = ap (λ (n : ℕ). report (redeem_script program.code []) (unlocking_of program args n) line) count;
+      shown = ap (λ (n : ℕ). lines_with (redeem_script program.code []) (unlocking_of program args n) (locking_script (redeem_script program.code [])) line) count;
     })
 
 -- the transaction of which nothing is given is a frame

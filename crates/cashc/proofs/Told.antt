@@ -23,4 +23,3 @@ input_said stops.TooMany is = cc
 input_said (stops.WrongCount wanted found) is = cc
 input_said stops.NoSuchFunction is = cc
 input_said (stops.RedeemTooLong bytes) is = cc
-input_said stops.TooLong is = cc

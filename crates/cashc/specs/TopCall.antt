@@ -26,11 +26,11 @@ use Rattle.spend_debug.specs.SpendLines.{spend_elements}
 use Rattle.spend_debug.specs.declared.spend_lines.LineFault.{LineFault}
 use Rattle.spend_debug.specs.SpendDebug.{plain_frame, SpendParts}
 use Rattle.spend_debug.specs.declared.report.InputStop.{InputStop}
-use Rattle.spend_debug.specs.declared.report.InputStop.TheVariants.{WrongCount, TooLong}
-use Rattle.spend_debug.specs.Telling.{script_line, failure_line, line_stop, input_line}
+use Rattle.spend_debug.specs.declared.report.InputStop.TheVariants.{WrongCount}
+use Rattle.spend_debug.specs.Telling.{lines_with, failure_line, line_stop, input_line}
 use Rattle.cash_compile.specs.declared.refusal.Refusal.{Refusal}
 use Rattle.cash_compile.specs.Compile.{max_source_len, IsAccepted, IsCompiled, IsRefused}
-use Rattle.cash_compile.specs.Correct.{Admits, spending_context}
+use Rattle.cash_compile.specs.Correct.{Admits, spending_context, spending_world}
 use Rattle.cashc.specs.RefusalText.{source_too_long, refusal_text}
 
 -- ---- the words
@@ -98,12 +98,6 @@ IsLine files name line =
 abbrev pub plain_spend : List (List ℕ) → SpendParts
 plain_spend args = record { ctor = []; chosen = 0; args = args; frame = plain_frame; verdicts = [] }
 
--- the three scripts of a spend, a line each, and the line of the verdict
-abbrev pub report : List ℕ → List ℕ → List ℕ → List ℕ
-report redeem unlocking verdict =
-    script_line (codes "redeem") redeem ++ script_line (codes "unlocking") unlocking
-    ++ script_line (codes "locking") (locking_script redeem) ++ verdict
-
 -- What the source's run and the machine's spend come to together. Status 0: the run is met, and the spend accepted. Status
 -- 3: the run fails, and the spend is refused in the redeem script. Nothing else goes together.
 abbrev pub IsVerdict : List ℕ → SourceOutcome → MachineOutcome → ℕ → List ℕ → Type 0
@@ -113,7 +107,7 @@ IsVerdict source (Failed span cause) (Refused Redeem at fault) status line =
 IsVerdict source run spend status line = ⊥
 
 -- The arguments of a file call the contract's only function. The scripts are those of the program, which is correct for
--- the contract: for all other arguments too.
+-- the contract: for all other arguments, frames and tables too.
 pub record IsJudged (source : List ℕ) (contract : Contract Slot Ty) (program : Artifact) (spend : List ℕ) (status : ℕ) (text : List ℕ) : Type 0 where
   pub args : List (List ℕ)
   pub read : spend_elements spend ≡ Ok args
@@ -121,9 +115,12 @@ pub record IsJudged (source : List ℕ) (contract : Contract Slot Ty) (program :
   pub only : contract.functions ≡ function ∷ []
   pub admitted : Admits contract program.code [] 0 function args
   pub line : List ℕ
-  pub verdict : IsVerdict source (source_outcome contract [] function args)
+  pub verdict : IsVerdict source
+      (source_outcome contract [] function args (spending_world contract program.code [] 0 args plain_frame []))
       (spend_outcome (spending_context contract program.code [] 0 args plain_frame) []) status line
-  pub shown : text ≡ report (redeem_script program.code []) (spending_script (length contract.functions) 0 args (redeem_script program.code [])) line
+  pub shown : text ≡ lines_with (redeem_script program.code [])
+      (spending_script (length contract.functions) 0 args (redeem_script program.code []))
+      (locking_script (redeem_script program.code [])) line
 
 -- the scripts and the verdict of the spend of the first file's contract that the second file asks for
 pub record IsReport (files : Option Files) (source_name spend_name : List ℕ) (status : ℕ) (text : List ℕ) : Type 0 where
@@ -169,11 +166,14 @@ abbrev pub IsSpendStop : Contract Slot Ty → List ℕ → InputStop → Type 0
 IsSpendStop contract spend stop =
     IsLineStop spend stop ⊎ ((args : List (List ℕ)) × (spend_elements spend ≡ Ok args) × IsCountStop contract args stop)
 
+abbrev pub input_too_long : List ℕ
+input_too_long = codes "input TooLong\n"
+
 -- the source is accepted, and the file of arguments is longer than it may be, or it isn't and is refused
 abbrev pub IsInputRefusal : Option Files → List ℕ → List ℕ → List ℕ → Type 0
 IsInputRefusal files source_name spend_name text =
     (source : List ℕ) × (contract : Contract Slot Ty) × IsFile files source_name source × IsAccepted source contract
-    × ((IsLonger files spend_name max_spend_len × (text ≡ input_line TooLong))
+    × ((IsLonger files spend_name max_spend_len × (text ≡ input_too_long))
     ⊎ ((spend : List ℕ) × (stop : InputStop) × IsFile files spend_name spend × (length spend ≤ max_spend_len)
     × IsSpendStop contract spend stop
     × (text ≡ input_line stop)))

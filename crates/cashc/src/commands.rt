@@ -16,7 +16,7 @@ use crate::refusal_text::{SOURCE_TOO_LONG, refusal_text};
 use artifact_json::Program;
 use bch_vm::{Machine, MachineOutcome};
 use cash_base::{Element, Memory, Store, StoreStop};
-use cash_compile::compile::{Compiled, compile};
+use cash_compile::compile::{Compiled, compile, one_function};
 use cash_compile::{MAX_SOURCE_LEN, Refusal};
 use script_codec::encode;
 use spend_debug::spend_lines::read_elements_are_few;
@@ -32,6 +32,9 @@ use tx_context::Verdicts;
 const MAX_SPEND_LEN: usize = 4_194_304;
 
 const INPUT_TOO_LONG: &str = "input TooLong\n";
+
+/// When a program was compiled, where nothing else is said.
+const NO_TIME: &str = "1970-01-01T00:00:00.000Z";
 
 /// A command, with the names of its files.
 #[derive(Clone, Copy)]
@@ -76,7 +79,8 @@ impl From<AllocError> for Stop {
     }
 }
 
-/// Does a command.
+/// What a command shows, and the status that goes with it, or why it shows nothing: a refusal with status 1 or 4 and its
+/// text, that a file could not be read, or that memory ran out. Nothing is written.
 pub fn answer<S: Store>(alloc: Global, command: &Command<'_>, store: &mut S) -> Result<Output, Stop>
     ensures shown { IfOk result (λ output.
         IsShownFor (S.files store.old) (Some (seen command.now)) output.status output.text.items) }
@@ -130,7 +134,7 @@ fn compiled(alloc: Global, source: &[u8]) -> Result<Compiled, Stop>
     ensures stopped { IfErr result (λ stop. HasSourceCause source.now stop) }
     ensures said { IfErr result (λ stop. IsSaid stop) }
 {
-    match compile(alloc, source) {
+    match compile(alloc, source, NO_TIME) {
         Ok(compiled) => Ok(compiled),
         Err(Refusal::Memory) => Err(Stop::Memory),
         Err(refusal) => {
@@ -203,6 +207,7 @@ fn judged(alloc: Global, source: &[u8], compiled: &Compiled, spend: &[u8]) -> Re
     read_elements_are_few();
     built_scripts_are_of_a_call();
     told_as_a_failure();
+    one_function();
     let args = arguments(alloc, spend)?;
     let report = report_of(alloc, &compiled.program, args)?;
     let output = report_answer(alloc, source, &report)?;

@@ -15,9 +15,10 @@ const INEQUALITY: &str = "contract S() { function f(int x, int y) { require(x !=
 const USAGE: &str =
     "usage: cashc compile FILE [--updated-at TEXT] | debug SOURCE SPEND | trace SOURCE SPEND | spend ARTIFACT SPEND | meaning SOURCE SPEND | workload NUMBER\n";
 
-fn words_of(alloc: Global, words: &[&str]) -> Result<Vec<String>, AllocError> {
+// The words of a line.
+fn words_of(alloc: Global, line: &str) -> Result<Vec<String>, AllocError> {
     let mut all = Vec::new(alloc);
-    for word in words {
+    for word in line.split_whitespace() {
         all.push(String::from_str(alloc, word)?)?;
     }
     Ok(all)
@@ -39,7 +40,7 @@ fn files(alloc: Global, source: &[u8], spend: &[u8]) -> Result<Vec<(String, Vec<
 // given fail; 9 is never reached.
 #[derive(Drop)]
 struct Call<'a> {
-    words: &'a [&'a str],
+    words: &'a str,
     source: &'a [u8],
     spend: &'a [u8],
     failing: [u32; 3],
@@ -61,7 +62,7 @@ fn answer(alloc: Global, call: &Call<'_>) -> Result<(u8, MemorySink, MemorySink)
 #[test]
 fn an_equality_is_compiled(rt: HostRuntime) -> Result<(), Fail> {
     let call = Call {
-        words: &["compile", "s"],
+        words: "compile s",
         source: EQUALITY.as_bytes(),
         spend: b"",
         failing: [9, 9, 9],
@@ -75,110 +76,109 @@ fn an_equality_is_compiled(rt: HostRuntime) -> Result<(), Fail> {
     Ok(())
 }
 
+// The status, and what is written to `err`, of a call that writes nothing to `out`.
+fn told(alloc: Global, words: &str, source: &[u8], failing: [u32; 3]) -> Result<String, Fail> {
+    let call = Call {
+        words,
+        source,
+        spend: b"05\n05\n",
+        failing,
+    };
+    let (status, out, err) = answer(alloc, &call)?;
+    if !out.bytes().is_empty() {
+        return Err("nothing is written to `out`".into());
+    }
+    let text = str::from_utf8(err.bytes())?;
+    Ok(format!(in alloc; "{status}|{text}")?)
+}
+
+#[test]
+fn words_that_are_no_command(rt: HostRuntime) -> Result<(), Fail> {
+    let wanted = format!(in rt.alloc(); "2|{USAGE}")?;
+    for words in ["", "compile", "compile s s", "workload 0", "debug s"] {
+        let shown = told(rt.alloc(), words, EQUALITY.as_bytes(), [9, 9, 9])?;
+        assert_eq!(rt; shown.as_str(), wanted.as_str(), "{words}");
+    }
+    Ok(())
+}
+
+// Each call on a line: the words, the source, the calls of the store, of `out` and of `err` that fail, the status, and what is
+// written to `err`, with bars between; `~` stands for a line feed. The file of arguments isn't read where the source is
+// refused, and each output is written in one call.
+const CALLS: &str = "\
+compile s|unequal|---|1|refused 1:1 NotBuilt~
+compile s|empty|---|1|refused 1:1 Syntax~
+compile s|long|---|1|refused SourceTooLong~
+compile s|equal|0--|5|read failed~
+compile t|equal|---|5|read failed~
+compile t|equal|101|5|read failed~
+compile t|equal|--0|5|
+compile s|equal|-0-|6|
+compile s|unequal|--0|6|
+debug s p|unequal|---|1|refused 1:1 NotBuilt~
+debug s p|unequal|101|1|refused 1:1 NotBuilt~
+debug s q|unequal|---|1|refused 1:1 NotBuilt~
+debug s p|long|---|1|refused SourceTooLong~
+debug s s|equal|---|4|input BadHex arguments~
+debug s p|equal|0--|5|read failed~
+debug s p|equal|1--|5|read failed~
+debug s q|equal|---|5|read failed~
+debug s p|equal|-0-|6|
+debug s s|equal|--0|6|
+";
+
+fn source_of(alloc: Global, name: &str) -> Result<Vec<u8>, Fail> {
+    match name {
+        "equal" => Ok(Vec::from_slice(alloc, EQUALITY.as_bytes())?),
+        "unequal" => Ok(Vec::from_slice(alloc, INEQUALITY.as_bytes())?),
+        "long" => Ok(vec![in alloc; b' '; 65_537]?),
+        "empty" => Ok(Vec::new(alloc)),
+        _ => Err("a source".into()),
+    }
+}
+
+// The number of the call that fails; 9 is never reached.
+fn failing_call(mark: Option<&u8>) -> u32 {
+    match mark {
+        Some(b'0') => 0,
+        Some(b'1') => 1,
+        _ => 9,
+    }
+}
+
 #[test]
 fn each_other_status(rt: HostRuntime) -> Result<(), Fail> {
-    let long = vec![in rt.alloc(); b' '; 65_537]?;
-    let rows: [(&[&str], &[u8], [u32; 3], u8, &str); 21] = [
-        (
-            &["compile", "s"],
-            INEQUALITY.as_bytes(),
-            [9, 9, 9],
-            1,
-            "refused 1:1 NotBuilt\n",
-        ),
-        (&["compile", "s"], b"", [9, 9, 9], 1, "refused 1:1 Syntax\n"),
-        (
-            &["compile", "s"],
-            long.as_slice(),
-            [9, 9, 9],
-            1,
-            "refused SourceTooLong\n",
-        ),
-        (&[], EQUALITY.as_bytes(), [9, 9, 9], 2, USAGE),
-        (&["compile"], EQUALITY.as_bytes(), [9, 9, 9], 2, USAGE),
-        (
-            &["compile", "s", "s"],
-            EQUALITY.as_bytes(),
-            [9, 9, 9],
-            2,
-            USAGE,
-        ),
-        (&["workload", "0"], EQUALITY.as_bytes(), [9, 9, 9], 2, USAGE),
-        (
-            &["compile", "s"],
-            EQUALITY.as_bytes(),
-            [0, 9, 9],
-            5,
-            "read failed\n",
-        ),
-        (
-            &["compile", "t"],
-            EQUALITY.as_bytes(),
-            [9, 9, 9],
-            5,
-            "read failed\n",
-        ),
-        (&["compile", "t"], EQUALITY.as_bytes(), [9, 9, 0], 5, ""),
-        (&["compile", "s"], EQUALITY.as_bytes(), [9, 0, 9], 6, ""),
-        (&["compile", "s"], INEQUALITY.as_bytes(), [9, 9, 0], 6, ""),
-        (&["debug", "s"], EQUALITY.as_bytes(), [9, 9, 9], 2, USAGE),
-        (
-            &["debug", "s", "p"],
-            INEQUALITY.as_bytes(),
-            [9, 9, 9],
-            1,
-            "refused 1:1 NotBuilt\n",
-        ),
-        (
-            &["debug", "s", "p"],
-            long.as_slice(),
-            [9, 9, 9],
-            1,
-            "refused SourceTooLong\n",
-        ),
-        (
-            &["debug", "s", "s"],
-            EQUALITY.as_bytes(),
-            [9, 9, 9],
-            4,
-            "input BadHex arguments\n",
-        ),
-        (
-            &["debug", "s", "p"],
-            EQUALITY.as_bytes(),
-            [0, 9, 9],
-            5,
-            "read failed\n",
-        ),
-        (
-            &["debug", "s", "p"],
-            EQUALITY.as_bytes(),
-            [1, 9, 9],
-            5,
-            "read failed\n",
-        ),
-        (
-            &["debug", "s", "q"],
-            EQUALITY.as_bytes(),
-            [9, 9, 9],
-            5,
-            "read failed\n",
-        ),
-        (&["debug", "s", "p"], EQUALITY.as_bytes(), [9, 0, 9], 6, ""),
-        (&["debug", "s", "s"], EQUALITY.as_bytes(), [9, 9, 0], 6, ""),
-    ];
-    for (words, source, failing, wanted, text) in rows {
-        let call = Call {
-            words,
-            source,
-            spend: b"05\n05\n",
-            failing,
-        };
-        let (status, out, err) = answer(rt.alloc(), &call)?;
-        assert_eq!(rt; status, wanted, "{text}");
-        assert!(rt; out.bytes().is_empty(), "{text}");
-        assert_eq!(rt; err.bytes(), text.as_bytes());
+    let alloc = rt.alloc();
+    for line in CALLS.lines() {
+        let (words, others) = line.split_once('|').ok_or("a bar")?;
+        let (name, others) = others.split_once('|').ok_or("a bar")?;
+        let (marks, wanted) = others.split_once('|').ok_or("a bar")?;
+        let source = source_of(alloc, name)?;
+        let marks = marks.as_bytes();
+        let failing = [
+            failing_call(marks.first()),
+            failing_call(marks.get(1)),
+            failing_call(marks.get(2)),
+        ];
+        let shown = told(alloc, words, source.as_slice(), failing)?;
+        let wanted = with_feeds(alloc, wanted)?;
+        assert_eq!(rt; shown.as_bytes(), wanted.as_slice(), "{line}");
     }
+    Ok(())
+}
+
+#[test]
+fn later_calls_that_would_fail_are_never_made(rt: HostRuntime) -> Result<(), Fail> {
+    let call = Call {
+        words: "debug s p",
+        source: EQUALITY.as_bytes(),
+        spend: b"05\n05\n",
+        failing: [2, 1, 0],
+    };
+    let (status, out, err) = answer(rt.alloc(), &call)?;
+    assert_eq!(rt; status, 0);
+    assert!(rt; out.bytes().ends_with(b"accepted\n"));
+    assert!(rt; err.bytes().is_empty());
     Ok(())
 }
 
@@ -252,7 +252,7 @@ refused 2:1 Syntax|contract S() {~
 // What the call prints on the sources, without the line feed; of code the first word.
 fn printed(alloc: Global, source: &[u8]) -> Result<String, Fail> {
     let call = Call {
-        words: &["compile", "s"],
+        words: "compile s",
         source,
         spend: b"",
         failing: [9, 9, 9],
@@ -330,25 +330,25 @@ fn the_129th_if_is_too_deep(rt: HostRuntime) -> Result<(), Fail> {
     let span = Span { from: 384, to: 386 };
     let rule = DepthRule::Branches;
     let wanted = ParseFault::TooDeep { rule, span };
-    let Some(Refusal::Parse(fault)) = compile(alloc, source).err() else {
+    let Some(Refusal::Parse(fault)) = compile(alloc, source, "").err() else {
         return Err("it is refused".into());
     };
     assert_eq!(rt; fault, wanted);
     Ok(())
 }
 
-// Calls `debug` on the equality of two numbers.
-fn spent(alloc: Global, spend: &[u8]) -> Result<(u8, MemorySink, MemorySink), Fail> {
+// Calls `debug` on a source.
+fn spent(alloc: Global, source: &[u8], spend: &[u8]) -> Result<(u8, MemorySink, MemorySink), Fail> {
     let call = Call {
-        words: &["debug", "s", "p"],
-        source: EQUALITY.as_bytes(),
+        words: "debug s p",
+        source,
         spend,
         failing: [9, 9, 9],
     };
     answer(alloc, &call)
 }
 
-// Arguments, the status, and how the last line begins: the index behind `opcode` depends on the code.
+// Arguments, the status, and how the last line begins: the index after `opcode` depends on the code.
 #[test]
 fn spends_and_their_verdicts(rt: HostRuntime) -> Result<(), Fail> {
     let rows: [(&str, u8, &str); 5] = [
@@ -363,7 +363,7 @@ fn spends_and_their_verdicts(rt: HostRuntime) -> Result<(), Fail> {
         ("e803\nE803\n", 0, "accepted\n"),
     ];
     for (spend, wanted, verdict) in rows {
-        let (status, out, err) = spent(rt.alloc(), spend.as_bytes())?;
+        let (status, out, err) = spent(rt.alloc(), EQUALITY.as_bytes(), spend.as_bytes())?;
         assert_eq!(rt; status, wanted, "{spend}");
         assert!(rt; err.bytes().is_empty(), "{spend}");
         let mut lines = str::from_utf8(out.bytes())?.split_inclusive('\n');
@@ -378,10 +378,44 @@ fn spends_and_their_verdicts(rt: HostRuntime) -> Result<(), Fail> {
     Ok(())
 }
 
+// The last line of `debug` on a source, up to the index of the instruction, and the status.
+fn verdict(alloc: Global, source: &[u8], spend: &[u8]) -> Result<(u8, String), Fail> {
+    let (status, out, _err) = spent(alloc, source, spend)?;
+    let line = str::from_utf8(out.bytes())?.lines().last().ok_or("a line")?;
+    let shown = line.split(" opcode ").next().ok_or("a verdict")?;
+    Ok((status, String::from_str(alloc, shown)?))
+}
+
+// Each spend on a line, with bars between how its last line begins, the source and the arguments; `~` stands for a line feed.
+const SPENDS: &str = "\
+accepted|contract S() { function f() { require(0 == 0); } }|
+refused 1:31 CheckFailed|contract S() { function f() { require(0 == 1); } }|
+accepted|contract S() { function f(int x) { require(16 == x); } }|10~
+refused 1:36 CheckFailed|contract S() { function f(int x) { require(16 == x); } }|-~
+refused 3:9 CheckFailed|contract Equality() {~    function spend(int x, int y) {~        require(x == y);~    }~}~|05~06~
+refused 3:17 NotANumber|contract Equality() {~    function spend(int x, int y) {~        require(x == y);~    }~}~|00~-~
+accepted|contract S() { function f(int a, int b, int c, int d, int e, int f, int g, int h, int i, int j, int k, int l, int m, int n, int o, int p) { require(p == a); } }|05~05~05~05~05~05~05~05~05~05~05~05~05~05~05~05~
+";
+
+#[test]
+fn spends_of_other_sources(rt: HostRuntime) -> Result<(), Fail> {
+    let alloc = rt.alloc();
+    for line in SPENDS.lines() {
+        let (wanted, others) = line.split_once('|').ok_or("a bar")?;
+        let (source, spend) = others.split_once('|').ok_or("a bar")?;
+        let source = with_feeds(alloc, source)?;
+        let spend = with_feeds(alloc, spend)?;
+        let (status, shown) = verdict(alloc, source.as_slice(), spend.as_slice())?;
+        assert_eq!(rt; shown.as_str(), wanted, "{line}");
+        assert_eq!(rt; status, if wanted == "accepted" { 0 } else { 3 });
+    }
+    Ok(())
+}
+
 // The printed scripts by the rules of pay to script hash: the arguments, the last first, and a push of the redeem script.
 #[test]
 fn scripts_of_a_spend(rt: HostRuntime) -> Result<(), Fail> {
-    let (status, out, _err) = spent(rt.alloc(), b"05\n0c00\n")?;
+    let (status, out, _err) = spent(rt.alloc(), EQUALITY.as_bytes(), b"05\n0c00\n")?;
     assert_eq!(rt; status, 3);
     let mut lines = str::from_utf8(out.bytes())?.lines();
     let redeem = lines.next().ok_or("redeem")?;
@@ -401,7 +435,14 @@ fn scripts_of_a_spend(rt: HostRuntime) -> Result<(), Fail> {
 
 // What is printed of a file of so many equal lines.
 fn refused_lines(alloc: Global, line: &str, count: usize) -> Result<String, Fail> {
-    let (_status, _out, err) = spent(alloc, times(alloc, line, count)?.as_bytes())?;
+    let (status, out, err) = spent(
+        alloc,
+        EQUALITY.as_bytes(),
+        times(alloc, line, count)?.as_bytes(),
+    )?;
+    if status != 4 || !out.bytes().is_empty() {
+        return Err("the file is refused".into());
+    }
     Ok(String::from_str(alloc, str::from_utf8(err.bytes())?)?)
 }
 
@@ -418,7 +459,7 @@ fn arguments_that_are_refused(rt: HostRuntime) -> Result<(), Fail> {
         ("05 \n05\n", "input BadHex arguments\n"),
         ("--\n05\n", "input BadHex arguments\n"),
     ] {
-        let (status, out, err) = spent(alloc, spend.as_bytes())?;
+        let (status, out, err) = spent(alloc, EQUALITY.as_bytes(), spend.as_bytes())?;
         assert_eq!(rt; status, 4, "{spend}");
         assert!(rt; out.bytes().is_empty(), "{spend}");
         assert_eq!(rt; err.bytes(), wanted.as_bytes());
@@ -429,19 +470,20 @@ fn arguments_that_are_refused(rt: HostRuntime) -> Result<(), Fail> {
     assert_eq!(rt; text.as_str(), "input TooMany arguments\n");
     let mut longest = times(alloc, "00", 520)?;
     longest.push_str("\n05\n")?;
-    let (status, _out, _err) = spent(alloc, longest.as_bytes())?;
+    let (status, _out, _err) = spent(alloc, EQUALITY.as_bytes(), longest.as_bytes())?;
     assert_eq!(rt; status, 3);
     let mut longer = String::from_str(alloc, "00")?;
     longer.push_str(longest.as_str())?;
-    let (status, _out, err) = spent(alloc, longer.as_bytes())?;
+    let (status, out, err) = spent(alloc, EQUALITY.as_bytes(), longer.as_bytes())?;
     assert_eq!(rt; status, 4);
+    assert!(rt; out.bytes().is_empty());
     assert_eq!(rt; err.bytes(), b"input Range arguments\n".as_slice());
     Ok(())
 }
 
 #[test]
 fn a_sure_outside_serves(rt: HostRuntime) -> Result<(), Fail> {
-    let words = words_of(rt.alloc(), &["debug", "s", "p"])?;
+    let words = words_of(rt.alloc(), "debug s p")?;
     let mut store = SureStore::new(files(rt.alloc(), EQUALITY.as_bytes(), b"05\n05\n")?);
     let status = cashc(
         rt.alloc(),

@@ -7,7 +7,7 @@ ghost use Rattle.element_ops.specs.Reads.{bit_of, padded_to};
 
 use crate::operand::operand;
 use cash_base::element::copy_of;
-use cash_base::{Cause, Element, of_width, shortest};
+use cash_base::{Cause, Element, MAX_ELEMENT_LEN, of_width, shortest};
 
 /// An operation on the bits of two bytes.
 #[derive(Clone, Copy)]
@@ -59,7 +59,7 @@ pub fn join(a: &[u8], b: &[u8]) -> Result<Element, Cause>
     ensures value { IfOk result (λ e. joined a.now b.now ≡ Ok e.items) }
     ensures cause { IfErr result (λ cause. joined a.now b.now ≡ Err cause) }
 {
-    if a.len() + b.len() > 520 {
+    if a.len() + b.len() > MAX_ELEMENT_LEN {
         return Err(Cause::Oversize);
     }
     let mut element = copy_of(a);
@@ -115,7 +115,8 @@ fn pad_to(a: &[u8], n: i64) -> Result<Element, Cause>
     Ok(of_width(a, width))
 }
 
-/// The first bytes, so many as the second operand says, and the rest, or `SplitRange`.
+/// The first n bytes and the rest, where n is the number of the second operand. `NotANumber` comes where it is none, and then
+/// `SplitRange` where n is negative or above the length. It takes no memory.
 pub fn split(a: &[u8], n: &[u8]) -> Result<(Element, Element), Cause>
     requires { length a.now ≤ 520 }
     ensures value { IfOk result (λ p. split_parts a.now n.now ≡ Ok (p.0.items, p.1.items)) }

@@ -14,8 +14,9 @@ use cash_base::read_number;
 /// The most keys that CHECKMULTISIG takes.
 const MOST_KEYS: i64 = 20;
 
-/// The number of opcodes above 60 (hexadecimal) up to the end of a script or its first push that is cut off, and for
-/// each CHECKMULTISIG and CHECKMULTISIGVERIFY directly behind a minimal push of a number from 0 to 20 that number.
+/// The number of opcodes above 60 (hexadecimal) in a script of at most 10,000 bytes, up to its end or its first push that is
+/// cut off, and for each CHECKMULTISIG and CHECKMULTISIGVERIFY directly behind a minimal push of a number from 0 to 20 that
+/// number.
 ///
 /// It takes no memory. The count is this project's own; the limit of operations in a script of the Bitcoin Cash
 /// specification adds keys only where such a check is executed, however their number came to the stack.
@@ -37,7 +38,8 @@ pub fn counted(script: &[u8]) -> u32
     count
 }
 
-fn weight(opcode: u8) -> u32
+/// How much an opcode counts: 1 above 60 (hexadecimal), and else 0. It takes no memory.
+pub fn weight(opcode: u8) -> u32
     ensures value { result ≡ Counting.weight opcode }
     ensures bound { result ≤ 1 }
 {

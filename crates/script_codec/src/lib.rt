@@ -8,7 +8,7 @@ pub mod reading;
 pub mod spans;
 pub mod spelling;
 
-pub use counting::counted;
+pub use counting::{counted, weight};
 pub use instr::{Instr, Opcode};
 pub use reading::{CodecFault, RawInstr, next_instr};
 pub use spans::{Mark, Marked, Spanned};

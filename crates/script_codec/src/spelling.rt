@@ -9,7 +9,7 @@ use cash_base::Memory;
 use std::alloc::{AllocError, Global};
 
 /// The bytes of some instructions, each in its minimal spelling. Each opcode is above 60 in hexadecimal, since the
-/// bytes up to that push, but for 50, which is reserved.
+/// bytes up to that push, but for 50, which is reserved. `Memory` comes where memory ran out.
 ///
 /// Source: the Bitcoin Cash specification, on minimal pushes.
 pub fn encode(alloc: Global, code: &[Instr]) -> Result<Vec<u8>, Memory>

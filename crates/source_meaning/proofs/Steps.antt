@@ -5,6 +5,7 @@ use Rattle.std.proofs.lemmas.Option.{slice_get_within, slice_get-get_or}
 use Rattle.cash_base.specs.declared.place.Slot.{Slot}
 use Rattle.cash_base.specs.declared.place.Span.{Span}
 use Rattle.cash_base.specs.Failing.{◌>>=◌}
+use Rattle.tx_context.specs.World.{World}
 use Rattle.cash_tree.specs.declared.Ty.{Ty}
 use Rattle.cash_tree.specs.declared.Contract.{Contract}
 use Rattle.cash_tree.specs.declared.Function.{Function}
@@ -24,12 +25,12 @@ both_given op span (Err f) right s mid top left is = cc
 
 -- the whole run ends as the run of the body does from the elements
 pub ends : (contract : Contract Slot Ty) (ctor args : List (List ℕ)) (place n m : ℕ) (body : Result Env Failure) (f : Function Slot Ty) → CanRun contract n place m → length ctor ≡ n → length args ≡ m → f ≡ get_or contract.functions place f → env_after_all f.body (env_of (ctor ++ args)) ≡ body
-    → IfSome (slice_get contract.functions place) (λ g. ended body ≡ source_outcome contract ctor g args)
-ends contract ctor args place n m body f h ctor_count count at is =
+    → (world : World) → IfSome (slice_get contract.functions place) (λ g. ended body ≡ source_outcome contract ctor g args world)
+ends contract ctor args place n m body f h ctor_count count at is world =
     let found : slice_get contract.functions place ≡ Some f = slice_get-get_or contract.functions place f (slice_get_within contract.functions place h.function h.found) ∙ ap Some (sym at) in
     let same : h.function ≡ f = cc (found, h.found) in
     let slots : HaveSlotsFrom (length ctor) f.params = subst (λ k. HaveSlotsFrom k f.params) (sym ctor_count) (subst (λ g. HaveSlotsFrom n g.params) same h.arg_slots) in
     let parameters : length args ≡ length f.params = count ∙ sym h.arg_count ∙ ap (λ g. length g.params) same in
     let env : with_values f.params args (with_values contract.params ctor no_values) ≡ env_of (ctor ++ args) = with_values-env_of contract.params f.params ctor args h.ctor_slots (ctor_count ∙ sym h.ctor_count) slots parameters in
-    subst (λ o. IfSome o (λ g. ended body ≡ source_outcome contract ctor g args)) (sym found)
+    subst (λ o. IfSome o (λ g. ended body ≡ source_outcome contract ctor g args world)) (sym found)
     (sym (ap (λ v. ended (env_after_all f.body v)) env ∙ ap ended is))

@@ -8,6 +8,7 @@ use Rattle.cash_base.specs.Failing.{◌>>=◌}
 use Rattle.cash_base.specs.Number.{minimal_bytes, truth_of}
 use Rattle.element_ops.specs.declared.op.Op2.TheVariants.{NumEqual}
 use Rattle.element_ops.specs.Operation.{result2}
+use Rattle.tx_context.specs.World.{World}
 use Rattle.cash_tree.specs.declared.Ty.{Ty}
 use Rattle.cash_tree.specs.declared.Param.{Param}
 use Rattle.cash_tree.specs.declared.Contract.{Contract}
@@ -98,7 +99,8 @@ abbrev pub ended : {A : Type 0} → Result A Failure → SourceOutcome
 ended (Ok x) = Met
 ended (Err failure) = Failed failure.span failure.cause
 
--- how a function of the contract ends: the constructor's slots hold ctor, and the function's parameters args
-abbrev pub source_outcome : Contract Slot Ty → List (List ℕ) → Function Slot Ty → List (List ℕ) → SourceOutcome
-source_outcome contract ctor function args =
+-- How a function of the contract ends in a world: the constructor's slots hold ctor, and the function's parameters args. No
+-- form that has a meaning so far asks the world anything.
+abbrev pub source_outcome : Contract Slot Ty → List (List ℕ) → Function Slot Ty → List (List ℕ) → World → SourceOutcome
+source_outcome contract ctor function args world =
     ended (env_after_all function.body (with_values function.params args (with_values contract.params ctor no_values)))

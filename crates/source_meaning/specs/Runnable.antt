@@ -113,7 +113,7 @@ abbrev pub pushed : Result (List ℕ) Failure → Stack → Result Stack Failure
 pushed (Ok e) stack = Ok (e ∷ stack)
 pushed (Err failure) stack = Err failure
 
--- The two values on top are taken, of which the upper is the right side. Fewer values stay.
+-- The two values on top are taken, of which the upper is the right side. There are never fewer.
 abbrev pub combined : BinaryOp → Span → Stack → Result Stack Failure
 combined op span (b ∷ a ∷ rest) = pushed (at_span span (binary_value op a b)) rest
 combined op span stack = Ok stack

@@ -12,6 +12,8 @@ pub struct Failure {
 /// How a run of a contract's source ends: it meets every `require`, or fails first at a place for a cause.
 #[derive(Clone, Copy, Debug, PartialEq, Eq)]
 pub enum SourceOutcome {
+    /// Every `require` is met.
     Met,
+    /// The run fails first at this place of the source, for this cause.
     Failed { span: Span, cause: Cause },
 }

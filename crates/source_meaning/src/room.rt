@@ -2,6 +2,7 @@
 
 ghost use Rattle.std.specs.Prelude.{◌≡◌, ◌+◌, ◌*◌, ◌^◌, ◌≤◌, ◌<◌, length, map, pos, slice_get, All, IsTrue, IfOk, IfErr, IfSome, OnOk, Ok, Err, [], ◌∷◌};
 ghost use Rattle.cash_base.specs.Number.{minimal_bytes, truth_of};
+ghost use Rattle.tx_context.specs.World.{World};
 ghost use Rattle.source_meaning.specs.Meaning.{binary_value, value_of, env_after, env_after_all, source_outcome};
 ghost use Rattle.source_meaning.specs.Runnable.{has_meaning, is_runnable, nodes, IsRunnable, IsRunnableStatement, CanRun, env_of, pushed, combined, top_of};
 
@@ -113,10 +114,10 @@ impl SourceRoom {
         ensures height { OnOk result (length self.new + 1 ≡ length self.old) }
     {
         let Some(right) = self.stack.pop() else {
-            return Ok(());
+            unreachable!();
         };
         let Some(left) = self.stack.pop() else {
-            return Ok(());
+            unreachable!();
         };
         match apply(op, left.as_slice(), right.as_slice()) {
             Ok(value) => {
@@ -204,8 +205,12 @@ impl SourceRoom {
     /// Runs a function of a contract: the constructor's parameters have the elements of `ctor`, and the function's
     /// those of `args`. `function` is its place in the contract, counted from 0.
     ///
-    /// It answers `Met` where every `require` is met, and else the first failure of the run. It takes no memory, and
-    /// nothing of an earlier run is left.
+    /// There is such a function, and there are as many elements as parameters. Each parameter is an `int`, slots are
+    /// numbered in order, each literal is a script number, each expression has at most 1,000 nodes, and there are only the
+    /// forms that have a meaning so far: `require` of `==` over names and numbers.
+    ///
+    /// It answers `Met` where every `require` is met, and else the first failure of the run, in every world: no form that
+    /// can be run so far asks it anything. It takes no memory, and nothing of an earlier run is left.
     pub fn run(
         &mut self,
         contract: &TypedContract,
@@ -214,9 +219,8 @@ impl SourceRoom {
         args: &[Element],
     ) -> SourceOutcome
         requires { CanRun contract.now (length ctor.now) function (length args.now) }
-        ensures { IfSome (slice_get contract.now.functions function) (λ f.
-            result ≡ source_outcome contract.now (map (λ e. e.items) ctor.now) f
-            (map (λ e. e.items) args.now)) }
+        ensures { (world : World) → IfSome (slice_get contract.now.functions function) (λ f.
+            result ≡ source_outcome contract.now (map (λ e. e.items) ctor.now) f (map (λ e. e.items) args.now) world) }
     {
         let function = &contract.functions.as_slice()[function];
         let slots = Slots { ctor, args };

@@ -4,7 +4,8 @@ ghost use Rattle.std.specs.Prelude.{◌≡◌, ◌+◌, ◌*◌, ◌^◌, ◌≤
 ghost use Rattle.source_meaning.specs.Runnable.{is_int, are_ints, is_runnable, nodes, IsRunnable, HaveSlotsFrom, CanRun};
 
 use crate::{SourceOutcome, SourceRoom};
-use cash_base::{Cause, Element, Slot, Span};
+use cash_base::element::copy_of;
+use cash_base::{Cause, Element, MAX_ELEMENT_LEN, Slot, Span};
 use cash_tree::{BinaryOp, Expr, ExprKind, Function, Param, Stmt, StmtKind, Ty, TypedContract};
 use sqlite_items::{Boxed, Items};
 use std::alloc::{AllocError, Global};
@@ -35,10 +36,11 @@ fn not_a_number(span: Span) -> SourceOutcome {
     }
 }
 
-fn element(bytes: &[u8]) -> Element {
-    let mut element = Element::new();
-    let _ = element.try_extend_from_slice(bytes);
-    element
+fn element(bytes: &[u8]) -> Result<Element, Fail> {
+    if bytes.len() > MAX_ELEMENT_LEN {
+        return Err("an element has at most 520 bytes".into());
+    }
+    Ok(copy_of(bytes))
 }
 
 fn literal(digits: u128, unit: u64, span: Span) -> Expr<Slot, Ty>
@@ -138,12 +140,12 @@ fn outcome(
     value: Expr<Slot, Ty>,
     x: &[u8],
     y: &[u8],
-) -> Result<SourceOutcome, AllocError>
+) -> Result<SourceOutcome, Fail>
     requires { IsRunnable 2 value }
 {
     let params = Vec::from_array(alloc, [param(0, 30), param(1, 37)])?;
     let contract = contract(alloc, Vec::new(alloc), params, value)?;
-    let args = [element(x), element(y)];
+    let args = [element(x)?, element(y)?];
     Ok(room.run(&contract, &[], 0, &args))
 }
 
@@ -154,14 +156,14 @@ fn constructed_outcome(
     value: Expr<Slot, Ty>,
     x: &[u8],
     y: &[u8],
-) -> Result<SourceOutcome, AllocError>
+) -> Result<SourceOutcome, Fail>
     requires { IsRunnable 2 value }
 {
     let constructor = Vec::from_array(alloc, [param(0, 30)])?;
     let params = Vec::from_array(alloc, [param(1, 37)])?;
     let contract = contract(alloc, constructor, params, value)?;
-    let ctor = [element(x)];
-    let args = [element(y)];
+    let ctor = [element(x)?];
+    let args = [element(y)?];
     Ok(room.run(&contract, &ctor, 0, &args))
 }
 

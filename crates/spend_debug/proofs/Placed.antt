@@ -1,6 +1,5 @@
 -- The place of a refusal in the redeem script, and how it is told.
-use Rattle.std.proofs.Common.{◌≡◌, ℕ, ◌+◌, ◌-◌, ◌≤◌, Bool, cond, List, length, Option, Some, None, ap, ◌∙◌, arith, ◌++◌}
-use Rattle.std.proofs.lemmas.Bool.{le-ltb}
+use Rattle.std.proofs.Common.{◌≡◌, ℕ, List, length, Option, Some, ap, ◌∙◌, ◌++◌}
 use Rattle.cash_base.specs.declared.fault.Cause.{Cause}
 use Rattle.cash_base.specs.declared.fault.MachineCause.{MachineCause}
 use Rattle.cash_base.specs.declared.place.Span.{Span}
@@ -9,29 +8,20 @@ use Rattle.bch_vm.specs.declared.outcome.MachineOutcome.{MachineOutcome}
 use Rattle.bch_vm.specs.declared.outcome.MachineOutcome.TheVariants.{Refused}
 use Rattle.span_map.specs.declared.SpanRow.{SpanRow}
 use Rattle.span_map.specs.Lines.{line_col}
-use Rattle.span_map.specs.Places.{place_of}
+use Rattle.span_map.specs.Places.{place_behind}
 use Rattle.std.specs.Prelude.{codes}
 use Rattle.std.specs.Fmt.{decimal}
 use Rattle.artifact_json.specs.Artifact.{Artifact}
 use Rattle.spend_debug.specs.Telling.{LineCol, at_place, told_place, placed_name, cause_name, verdict_line, failure_line}
 use Rattle.spend_debug.specs.SpendDebug.{SpendParts, known_place, told_of, outcome_of}
 
--- behind the pushes of the constructor it is that of the row
-behind_pushes : (rows : List SpanRow) (before at : ℕ) (cause : MachineCause)
-    → known_place (Some rows) before (Refused Redeem (before + at) cause) ≡ place_of rows at cause
-behind_pushes rows before at cause =
-    let late : before ≤ before + at = omega arith in
-    let index : before + at - before ≡ at = omega arith in
-    ap (λ (t : Bool). cond t None (place_of rows (before + at - before) cause)) (le-ltb (before + at) before late)
-    ∙ ap (λ (k : ℕ). place_of rows k cause) index
-
-pub place_told : (program : Artifact) (spend : SpendParts) (rows : List SpanRow) (at : ℕ) (cause : MachineCause) (span : Span)
-    → program.spans ≡ Some rows → outcome_of program spend ≡ Refused Redeem (length spend.ctor + at) cause
-    → place_of rows at cause ≡ Some span → (told_of program spend).place ≡ Some span
+-- the place that is told is that of the program's row
+place_told : (program : Artifact) (spend : SpendParts) (rows : List SpanRow) (at : ℕ) (cause : MachineCause) (span : Span)
+    → program.spans ≡ Some rows → outcome_of program spend ≡ Refused Redeem at cause
+    → place_behind rows (length spend.ctor) at cause ≡ Some span → (told_of program spend).place ≡ Some span
 place_told program spend rows at cause span known is placed =
     ap (λ (r : Option (List SpanRow)). known_place r (length spend.ctor) (outcome_of program spend)) known
-    ∙ ap (λ (o : MachineOutcome). known_place (Some rows) (length spend.ctor) o) is
-    ∙ behind_pushes rows (length spend.ctor) at cause ∙ placed
+    ∙ ap (λ (o : MachineOutcome). known_place (Some rows) (length spend.ctor) o) is ∙ placed
 
 -- how a refusal at a place is told
 told_refusal : (place : LineCol) (cause : MachineCause) (fault : Cause) (at : ℕ) → placed_name cause ≡ cause_name fault
@@ -41,12 +31,12 @@ told_refusal place cause fault at same =
 
 pub told_failure : (program : Artifact) (spend : SpendParts) (rows : List SpanRow) (at : ℕ) (cause : MachineCause) (span : Span)
     (fault : Cause) (source : List ℕ)
-    → program.spans ≡ Some rows → outcome_of program spend ≡ Refused Redeem (length spend.ctor + at) cause
-    → place_of rows at cause ≡ Some span → placed_name cause ≡ cause_name fault
+    → program.spans ≡ Some rows → outcome_of program spend ≡ Refused Redeem at cause
+    → place_behind rows (length spend.ctor) at cause ≡ Some span → placed_name cause ≡ cause_name fault
     → verdict_line (told_of program spend).outcome (told_place source (told_of program spend).place)
-    ≡ failure_line (line_col source span.from) fault (length spend.ctor + at)
+    ≡ failure_line (line_col source span.from) fault at
 told_failure program spend rows at cause span fault source known is placed same =
     ap (λ (p : Option Span). verdict_line (outcome_of program spend) (told_place source p))
     (place_told program spend rows at cause span known is placed)
     ∙ ap (λ (o : MachineOutcome). verdict_line o (Some (line_col source span.from))) is
-    ∙ told_refusal (line_col source span.from) cause fault (length spend.ctor + at) same
+    ∙ told_refusal (line_col source span.from) cause fault at same

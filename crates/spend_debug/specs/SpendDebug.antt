@@ -1,5 +1,5 @@
 -- What a spend of a compiled contract comes to: its scripts, the machine's outcome, and the place of a failure.
-use Rattle.std.specs.Prelude.{◌≡◌, ℕ, ◌-◌, ◌≤◌, nat_lt, if◌then◌else◌, List, [], ◌∷◌, length, slice_get, replicate, Option, Some, None, Result, Ok, Err}
+use Rattle.std.specs.Prelude.{◌≡◌, ℕ, ◌≤◌, List, [], ◌∷◌, length, slice_get, replicate, Option, Some, None, Result, Ok, Err}
 use Rattle.cash_base.specs.declared.place.Span.{Span}
 use Rattle.cash_base.specs.Failing.{◌>>=◌}
 use Rattle.tx_context.specs.Transaction.{input_parts, transaction, Transaction, Locking}
@@ -11,7 +11,7 @@ use Rattle.bch_vm.specs.declared.outcome.MachineOutcome.TheVariants.{Refused}
 use Rattle.bch_vm.specs.Law.{locking_script}
 use Rattle.bch_vm.specs.Spend.{spend_outcome}
 use Rattle.span_map.specs.declared.SpanRow.{SpanRow}
-use Rattle.span_map.specs.Places.{place_of}
+use Rattle.span_map.specs.Places.{place_behind}
 use Rattle.artifact_json.specs.Artifact.{Artifact, AbiCall}
 use Rattle.unlocker.specs.declared.BuildFault.{BuildFault}
 use Rattle.unlocker.specs.declared.BuildFault.TheVariants as faults
@@ -56,8 +56,7 @@ built_scripts program spend = do
 
 -- the place of the row of a refusal in the redeem script, behind so many pushes of the constructor, where rows are known
 abbrev pub known_place : Option (List SpanRow) → ℕ → MachineOutcome → Option Span
-known_place (Some rows) before (Refused Redeem at cause) =
-    if nat_lt at before then None else place_of rows (at - before) cause
+known_place (Some rows) before (Refused Redeem at cause) = place_behind rows before at cause
 known_place rows before outcome = None
 
 -- how the machine ends on the scripts of a spend, in its transaction and by its table of verdicts

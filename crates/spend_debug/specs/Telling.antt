@@ -116,11 +116,16 @@ failure_line place cause at =
 abbrev pub script_line : List ℕ → List ℕ → List ℕ
 script_line name script = name ++ codes " " ++ encode_lower script ++ codes "\n"
 
--- the three scripts, a line each, and then the verdict, with the line and the column of its place in the source
+-- the three scripts, a line each, and then the line of a verdict
+abbrev pub lines_with : List ℕ → List ℕ → List ℕ → List ℕ → List ℕ
+lines_with redeem unlocking locking verdict =
+    script_line (codes "redeem") redeem ++ script_line (codes "unlocking") unlocking
+    ++ script_line (codes "locking") locking ++ verdict
+
+-- ... with the line and the column of its place in the source
 abbrev pub report_lines : List ℕ → Told → List ℕ
 report_lines source told =
-    script_line (codes "redeem") told.redeem ++ script_line (codes "unlocking") told.unlocking
-    ++ script_line (codes "locking") told.locking ++ verdict_line told.outcome (told_place source told.place)
+    lines_with told.redeem told.unlocking told.locking (verdict_line told.outcome (told_place source told.place))
 
 -- ---- why no spend is made of what is handed in
 
@@ -146,4 +151,3 @@ input_line (stops.WrongCount wanted found) =
     codes "input WrongCount " ++ decimal wanted ++ codes " " ++ decimal found ++ codes "\n"
 input_line stops.NoSuchFunction = codes "input NoSuchFunction\n"
 input_line (stops.RedeemTooLong bytes) = codes "input RedeemTooLong " ++ decimal bytes ++ codes "\n"
-input_line stops.TooLong = codes "input TooLong\n"

@@ -55,13 +55,11 @@ pub enum InputStop {
     },
     /// The contract has no function of this index.
     NoSuchFunction,
-    /// The redeem script has so many bytes, above 520.
+    /// The redeem script has more than 520 bytes.
     RedeemTooLong {
         /// How many it has.
         bytes: u32,
     },
-    /// A file is longer than it may be.
-    TooLong,
 }
 
 /// What is told of a fault of a file of arguments, or `None` where memory ran out.
@@ -93,7 +91,7 @@ pub fn build_stop(fault: BuildFault) -> Option<InputStop>
 /// It has the lines `redeem HEX`, `unlocking HEX` and `locking HEX`, and then `accepted`, or `refused WHERE CAUSE opcode
 /// N`. WHERE is LINE:COL of the first byte of the place where there is one, both from 1, and otherwise the script. CAUSE
 /// is the cause's name, and `CheckFailed` for a false element at the end of a script that has a place. N is the index of
-/// the instruction in its script. Each line ends with a line feed.
+/// the instruction in its script. Each line ends with a line feed. `Memory` comes where memory ran out.
 pub fn report_text(alloc: Global, source: &[u8], report: &Report) -> Result<Vec<u8>, Memory>
     requires { length source.now ≤ 2147483647 }
     ensures { IfOk result (λ text. text.items ≡ report_lines source.now report.now) }
@@ -116,7 +114,8 @@ fn told_place(source: &[u8], place: Option<Span>) -> Option<(u32, u32)>
     Some(line_col_of(source, span.from))
 }
 
-/// The line that tells why no spend is made: `input`, the fault's name, and `arguments` or the numbers.
+/// The line that tells why no spend is made: `input`, the fault's name, and `arguments` or the numbers. `Memory` comes where
+/// memory ran out.
 pub fn input_text(alloc: Global, stop: InputStop) -> Result<Vec<u8>, Memory>
     ensures { IfOk result (λ text. text.items ≡ input_line stop) }
 {
@@ -125,7 +124,6 @@ pub fn input_text(alloc: Global, stop: InputStop) -> Result<Vec<u8>, Memory>
         InputStop::BadHex => text.extend_from_slice(b"input BadHex arguments\n")?,
         InputStop::Range => text.extend_from_slice(b"input Range arguments\n")?,
         InputStop::TooMany => text.extend_from_slice(b"input TooMany arguments\n")?,
-        InputStop::TooLong => text.extend_from_slice(b"input TooLong\n")?,
         InputStop::NoSuchFunction => text.extend_from_slice(b"input NoSuchFunction\n")?,
         InputStop::RedeemTooLong { bytes } => {
             text.extend_from_slice(b"input RedeemTooLong ")?;
@@ -242,7 +240,7 @@ fn script_name(script: Which) -> &'static str
 }
 
 /// The name of a cause that a run of the source has too.
-pub fn cause_name(cause: Cause) -> &'static str
+fn cause_name(cause: Cause) -> &'static str
     ensures { result.now ≡ Telling.cause_name cause }
 {
     match cause {
@@ -263,7 +261,7 @@ pub fn cause_name(cause: Cause) -> &'static str
 }
 
 /// The name of a cause of the machine's.
-pub fn machine_name(cause: MachineCause) -> &'static str
+fn machine_name(cause: MachineCause) -> &'static str
     ensures { result.now ≡ Telling.machine_name cause }
 {
     match cause {

@@ -77,7 +77,6 @@ fn refused_inputs_are_told(rt: HostRuntime) -> Result<(), Fail> {
             InputStop::RedeemTooLong { bytes: 521 },
             "input RedeemTooLong 521\n",
         ),
-        (InputStop::TooLong, "input TooLong\n"),
     ] {
         let text = input_text(rt.alloc(), stop)?;
         assert_eq!(rt; text.as_slice(), expected.as_bytes());

@@ -7,8 +7,8 @@ ghost use Rattle.cash_base.specs.Element.{IsElement};
 ghost use Rattle.spend_debug.specs.declared.spend_lines.LineFault.TheVariants as faults;
 ghost use Rattle.spend_debug.specs.SpendLines.{lines, line_element, elements_of, spend_elements, behind};
 
-use cash_base::Element;
 use cash_base::element::copy_of;
+use cash_base::{Element, MAX_ELEMENT_LEN};
 use hex::FromHexError;
 use std::alloc::{AllocError, AllocFailed, Global};
 use thiserror::Error;
@@ -16,17 +16,14 @@ use thiserror::Error;
 /// The most lines of a file.
 const MOST_LINES: u32 = 16;
 
-/// The most bytes of an element.
-const LONGEST: usize = 520;
-
 /// Why a file has no arguments.
 #[derive(Clone, Copy, Debug, PartialEq, Eq, Error)]
 pub enum LineFault {
     /// A line is neither `-` nor an even, positive number of hexadecimal digits, or has no line feed at its end.
-    #[error("a line is neither `-` nor hexadecimal digits in pairs")]
+    #[error("a line is neither `-` nor hexadecimal digits in pairs, or no line feed ends it")]
     BadHex,
     /// A line has the digits of more than 520 bytes.
-    #[error("a line has more than 520 bytes")]
+    #[error("a line has the digits of more than 520 bytes")]
     Range,
     /// There are more than 16 lines.
     #[error("there are more than 16 lines")]
@@ -171,7 +168,7 @@ fn element_of(alloc: Global, text: &[u8], ended: bool) -> Result<Element, LineFa
         return Err(LineFault::BadHex);
     }
     match hex::decode(alloc, text) {
-        Ok(bytes) if bytes.len() <= LONGEST => Ok(copy_of(bytes.as_slice())),
+        Ok(bytes) if bytes.len() <= MAX_ELEMENT_LEN => Ok(copy_of(bytes.as_slice())),
         Ok(_) => Err(LineFault::Range),
         Err(FromHexError::OutOfMemory) => Err(LineFault::Memory),
         Err(_) => Err(LineFault::BadHex),

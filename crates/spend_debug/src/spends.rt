@@ -1,6 +1,6 @@
 //! Spends of compiled contracts: their scripts, how they end, and where in the source they fail.
 
-ghost use Rattle.std.specs.Prelude.{◌≡◌, ◌≤◌, ◌+◌, ◌⊎◌, ℕ, length, option_map, IfOk, IfErr, Ok, Err, Some, List};
+ghost use Rattle.std.specs.Prelude.{◌≡◌, ◌≤◌, ◌⊎◌, ℕ, length, option_map, IfOk, IfErr, Ok, Err, Some, List};
 ghost use Rattle.cash_base.specs.declared.fault.Cause.{Cause};
 ghost use Rattle.cash_base.specs.declared.fault.MachineCause.{MachineCause};
 ghost use Rattle.cash_base.specs.declared.place.Span.{Span};
@@ -8,7 +8,7 @@ ghost use Rattle.bch_vm.specs.declared.outcome.Which.TheVariants.{Redeem};
 ghost use Rattle.bch_vm.specs.declared.outcome.MachineOutcome.TheVariants.{Refused};
 ghost use Rattle.span_map.specs.declared.SpanRow.{SpanRow};
 ghost use Rattle.span_map.specs.Lines.{line_col};
-ghost use Rattle.span_map.specs.Places.{place_of};
+ghost use Rattle.span_map.specs.Places.{place_behind};
 ghost use Rattle.artifact_json.specs.Artifact.{Artifact, HasFewInputs};
 ghost use Rattle.spend_debug.specs.declared.spends.SpendStop.TheVariants as stops;
 ghost use Rattle.spend_debug.specs.SpendDebug;
@@ -82,7 +82,8 @@ impl From<BuildFault> for SpendStop {
     }
 }
 
-/// The transaction of a spend for which none is given: version 2, one input of zeros and empty bytecodes, no output.
+/// The transaction of a spend for which none is given: version 2, lock time 0, one input of zeros and empty bytecodes, no
+/// output. `Memory` comes where memory ran out.
 pub fn plain_frame(alloc: Global) -> Result<Frame, Memory>
     ensures { IfOk result (λ frame. frame ≡ SpendDebug.plain_frame) }
 {
@@ -102,7 +103,8 @@ pub fn plain_frame(alloc: Global) -> Result<Frame, Memory>
 }
 
 /// What a spend of a program comes to: the three scripts, how the machine ends on them in the transaction, and the place
-/// in the source of a refusal in the redeem script behind the constructor's pushes, where the program has places.
+/// in the source of a refusal in the redeem script after the constructor's pushes, where the program has places. Each function
+/// of the program has at most 16 parameters.
 ///
 /// `Build` comes exactly where the scripts can't be built, with the first of these faults: the count of the constructor's
 /// elements, the size of the redeem script, that there is no such function, the count of the arguments. Memory may be
@@ -130,27 +132,17 @@ pub fn built_scripts_are_of_a_call()
         → built_scripts program spend ≡ Ok (redeem, unlocking) → AreOfCall program spend redeem unlocking }
 {}
 
-/// A spend that is refused in the redeem script, behind the constructor's pushes, is told at the place of that row of the
-/// program.
-pub fn told_at_its_row()
-    ensures { (program : Artifact) (spend : SpendParts) (rows : List SpanRow) (at : ℕ) (cause : MachineCause) (span : Span)
-        → program.spans ≡ Some rows
-        → outcome_of program spend ≡ Refused Redeem (length spend.ctor + at) cause
-        → place_of rows at cause ≡ Some span
-        → (told_of program spend).place ≡ Some span }
-{}
-
-/// Its verdict is then told as a failure of the source: at the line and the column of this place, by the name of the cause
-/// that the source's run has.
+/// A spend that is refused in the redeem script, where the program has a place, is reported as a failure of the source: at the
+/// line and the column of this place, and by the name of the cause that the run of the source has.
 pub fn told_as_a_failure()
     ensures { (program : Artifact) (spend : SpendParts) (rows : List SpanRow) (at : ℕ) (cause : MachineCause) (span : Span)
         (fault : Cause) (source : List ℕ)
         → program.spans ≡ Some rows
-        → outcome_of program spend ≡ Refused Redeem (length spend.ctor + at) cause
-        → place_of rows at cause ≡ Some span
+        → outcome_of program spend ≡ Refused Redeem at cause
+        → place_behind rows (length spend.ctor) at cause ≡ Some span
         → placed_name cause ≡ cause_name fault
         → verdict_line (told_of program spend).outcome (told_place source (told_of program spend).place)
-        ≡ failure_line (line_col source span.from) fault (length spend.ctor + at) }
+        ≡ failure_line (line_col source span.from) fault at }
 {}
 
 /// The scripts of a spend that the machine is handed, but for the locking script.

@@ -8,7 +8,8 @@ ghost use Rattle.artifact_json.specs.Artifact.{HasFewInputs};
 use crate::{Spend, debug, plain_frame, report_text};
 use artifact_json::{AbiFunction, AbiInput, Program};
 use bch_vm::Machine;
-use cash_base::{Element, Span};
+use cash_base::element::copy_of;
+use cash_base::{Element, MAX_ELEMENT_LEN, Span};
 use cash_tree::Ty;
 use script_codec::{Instr, Opcode};
 use span_map::SpanRow;
@@ -47,7 +48,7 @@ fn spans(alloc: Global, has_places: bool) -> Result<Option<Vec<SpanRow>>, AllocE
     let mut rows = Vec::new(alloc);
     rows.push(SpanRow {
         doing: Span { from: 49, to: 55 },
-        checking: Span { from: 41, to: 56 },
+        checking: Span { from: 41, to: 57 },
     })?;
     Ok(Some(rows))
 }
@@ -70,11 +71,16 @@ fn program(alloc: Global, has_code: bool, has_places: bool) -> Result<Program, A
     })
 }
 
-fn one(alloc: Global, bytes: &[u8]) -> Result<Vec<Element>, AllocError> {
-    let mut element = Element::new();
-    let _ = element.try_extend_from_slice(bytes);
+fn element(bytes: &[u8]) -> Result<Element, Fail> {
+    if bytes.len() > MAX_ELEMENT_LEN {
+        return Err("an element has at most 520 bytes".into());
+    }
+    Ok(copy_of(bytes))
+}
+
+fn one(alloc: Global, bytes: &[u8]) -> Result<Vec<Element>, Fail> {
     let mut elements = Vec::new(alloc);
-    elements.push(element)?;
+    elements.push(element(bytes)?)?;
     Ok(elements)
 }
 
@@ -148,12 +154,10 @@ fn refusals_without_a_place(rt: HostRuntime) -> Result<(), Fail> {
 }
 
 // So many elements of so many bytes.
-fn long(alloc: Global, count: u8, bytes: usize) -> Result<Vec<Element>, AllocError> {
+fn long(alloc: Global, count: u8, bytes: usize) -> Result<Vec<Element>, Fail> {
     let mut elements = Vec::new(alloc);
     for _ in 0..count {
-        let mut element = Element::new();
-        let _ = element.try_extend_from_slice(vec![in alloc; 0x11; bytes]?.as_slice());
-        elements.push(element)?;
+        elements.push(element(vec![in alloc; 0x11; bytes]?.as_slice())?)?;
     }
     Ok(elements)
 }

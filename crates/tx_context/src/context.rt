@@ -78,7 +78,8 @@ impl Context {
     }
 }
 
-/// The context of a frame whose active input is spent by these two scripts.
+/// The context of a frame whose active input is spent by these two scripts, each of at most 20,000 bytes. `Memory` comes where
+/// memory ran out.
 ///
 /// Every locking bytecode that the frame leaves open is `locking`. The active input has the bytecodes `locking` and
 /// `unlocking`, whatever the frame says of them. All else is as in the frame.

@@ -8,9 +8,7 @@ ghost use Rattle.tx_context.specs.Lookup.{number_bytes, sized, context_value, it
 use crate::context::Context;
 use crate::part::{ContextInput, ContextOutput};
 use cash_base::element::copy_of;
-use cash_base::{Cause, Element, Look0, LookAt, read_number, write_number};
-
-const LONGEST_ELEMENT: usize = 520;
+use cash_base::{Cause, Element, Look0, LookAt, MAX_ELEMENT_LEN, read_number, write_number};
 
 const LONGEST_LOCK: usize = 5;
 
@@ -132,7 +130,7 @@ fn sized_element(bytes: &[u8]) -> Result<Element, Cause>
     ensures value { IfOk result (λ e. sized bytes.now ≡ Ok e.items) }
     ensures cause { IfErr result (λ cause. sized bytes.now ≡ Err cause) }
 {
-    if bytes.len() > LONGEST_ELEMENT {
+    if bytes.len() > MAX_ELEMENT_LEN {
         return Err(Cause::Oversize);
     }
     Ok(copy_of(bytes))

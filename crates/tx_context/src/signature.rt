@@ -65,7 +65,8 @@ fn answer_of(
     None
 }
 
-/// Whether each of several signatures is good for one of several keys, in the order of both.
+/// Whether each of several signatures is good for one of several keys, in the order of both. There are at most 20 keys, and no
+/// more signatures than keys.
 ///
 /// It goes from the last signature and the last key. A row that says `Malformed` ends it with `Malformed`. A good row
 /// moves to the signature before; the key always moves to the one before. It is false once more signatures than keys

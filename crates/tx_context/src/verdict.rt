@@ -94,7 +94,8 @@ impl Model for Verdicts {
 }
 
 impl Verdicts {
-    /// The table of these rows, or the fault of the first row that has one. A fault drops the rows.
+    /// The table of these rows; `TooMany` where there are more than 4,096, and else the fault of the first row that has one. A
+    /// fault drops the rows.
     ///
     /// At one row `MessageGiven` stands before `EmptySignatureGood`, and that before `Repeated`. The rows are compared
     /// in their place, so it takes no memory.

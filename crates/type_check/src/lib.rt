@@ -9,8 +9,6 @@ mod nodes;
 pub mod rules;
 mod statements;
 mod tables;
-#[cfg(test)]
-mod tests;
 
 pub use contract::{check, judged_once};
 pub use fault::TypeFault;

@@ -12,15 +12,12 @@ ghost use Rattle.unlocker.specs.Building.{count_check, built_redeem, built_unloc
 
 use artifact_json::Program;
 use cash_base::element::copy_of;
-use cash_base::{Element, Memory, write_number};
+use cash_base::{Element, MAX_ELEMENT_LEN, Memory, write_number};
 use ripemd160::ripemd160;
 use script_codec::{Instr, encode};
 use sha2::{Digest, Sha256};
 use std::alloc::{AllocError, AllocFailed, Global};
 use thiserror::Error;
-
-/// The most bytes of an element, and so of a redeem script.
-const LONGEST: usize = 520;
 
 /// Why no scripts are built. A number that has more than 32 bits is told as 4,294,967,295.
 #[derive(Clone, Copy, Debug, PartialEq, Eq, Error)]
@@ -85,7 +82,7 @@ pub fn redeem(alloc: Global, program: &Program, ctor: &[Element]) -> Result<Vec<
     check_elements(program.ctor.len(), ctor)?;
     let mut script = encode(alloc, pushes(alloc, ctor)?.as_slice())?;
     script.extend_from_slice(encode(alloc, program.code.as_slice())?.as_slice())?;
-    if script.len() > LONGEST {
+    if script.len() > MAX_ELEMENT_LEN {
         let bytes = capped(script.len());
         return Err(BuildFault::RedeemTooLong { bytes });
     }
@@ -106,7 +103,7 @@ pub fn locking(redeem: &[u8]) -> [u8; 23]
     script
 }
 
-/// The unlocking script that calls a function, which is named by its index from 0.
+/// The unlocking script that calls a function, which is named by its index from 0, for a redeem script of at most 520 bytes.
 ///
 /// It has the minimal pushes of the arguments, the last first, of the function's index where the contract has two
 /// functions or more, and of the redeem script: at most 523 bytes for each. `NoSuchFunction` comes exactly where there is
@@ -186,7 +183,7 @@ fn handed_pushes(
         return Ok(code);
     }
     let number = write_number(function as i64);
-    prove!(number.len() <= LONGEST);
+    prove!(number.len() <= MAX_ELEMENT_LEN);
     code.push(Instr::Push(number))?;
     Ok(code)
 }

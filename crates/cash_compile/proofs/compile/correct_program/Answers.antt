@@ -1,4 +1,5 @@
-use Rattle.cash_compile.proofs.Correct.{program_correct, few_inputs}
+use Rattle.cash_compile.proofs.Correct.{program_correct, decides, few_inputs}
+use Rattle.cash_compile.specs.Runs.{DecidesByRun}
 use Rattle.cash_compile.specs.Rows.{places}
 use Rattle.std.proofs.Common.{◌≤◌, List, length, map, Option, subst, sym}
 use Rattle.std.specs.Prelude.{IsSomeAnd}
@@ -17,6 +18,7 @@ returns c =
     record {
       correct = program_correct c.spend_is_decided.ensures c.tokens_cut_the_source.ensures c.reading_in_turn.ensures.end c.reading_behind_encoded.ensures c.meaning_of_spelled.ensures c.judged_once.ensures
           c.args.source.now c.args.contract.now rows program c.requires.accepted c.requires.agrees few made.code made.describes;
+      decides = subst (λ (code : List Instr). DecidesByRun c.args.contract.now code) (sym made.code) (decides c.args.contract.now rows c.requires.agrees);
       fits = subst (λ (code : List Instr). length (spellings code) ≤ 520) (sym made.code) few.size;
       placed = subst (λ (o : Option (List SpanRow)). IsSomeAnd o (λ (rows_ : List SpanRow). ArePlaced c.args.contract.now rows_)) (sym made.describes.placed) c.requires.placed;
       updated = made.updated;

@@ -9,7 +9,6 @@
 // Without a statement the expression stands in a `require` with span 900, and the answer is its type. The function's
 // span begins at 800.
 
-use crate::{TypeFault, cast_effect, check, judged_once, sized_effect};
 use cash_base::{Look0, LookAt, Slot, Span};
 use cash_tree::{
     BinaryOp, Builtin, Callee, Expr, ExprKind, Function, NamedTree, Param, Stmt, StmtKind, Ty,
@@ -18,6 +17,7 @@ use cash_tree::{
 use sqlite_items::{Boxed, Items};
 use std::alloc::Global;
 use std::test::Fail;
+use type_check::{TypeFault, cast_effect, check, judged_once, sized_effect};
 
 // ---- the notation
 

@@ -1,9 +1,9 @@
 // Sources beside what an independent reading of the grammar shows of their tree, or of the fault. A cast of another number
 // of values than one or two stops behind its `)`.
 
-use crate::{DepthRule, ParseFault, parse};
 use cash_base::Span;
 use cash_lexer::tokens;
+use cash_parser::{DepthRule, ParseFault, parse};
 use cash_tree::{Constraint, Expr, ExprKind, Param, Stmt, StmtKind, Tree};
 use std::alloc::{AllocError, Global};
 use std::process::Abort;

@@ -1,6 +1,5 @@
--- What correct code is: the machine decides of its stack as the source's run does of its arguments, and fails at the
--- places where the source's run does.
-use Rattle.std.specs.Prelude.{◌≡◌, ℕ, ◌⊎◌, Bool, true, false, IsTrue, List, [], ◌∷◌, length, ◌≤◌, map, Some, Result, Ok, Err}
+-- The run of the code alone beside the run of the source: how both end, and at which places both fail.
+use Rattle.std.specs.Prelude.{◌≡◌, ℕ, ◌⊎◌, Bool, true, false, IsTrue, List, [], ◌∷◌, ◌++◌, length, ◌≤◌, map, slice_get, Some, Result, Ok, Err}
 use Rattle.std.specs.List.{AllByRecursion}
 use Rattle.cash_base.specs.declared.fault.Cause.{Cause}
 use Rattle.cash_base.specs.declared.fault.Cause.TheVariants.{CheckFailed}
@@ -15,15 +14,16 @@ use Rattle.cash_tree.specs.declared.Function.{Function}
 use Rattle.source_meaning.specs.declared.outcome.SourceOutcome.{SourceOutcome}
 use Rattle.source_meaning.specs.declared.outcome.SourceOutcome.TheVariants.{Met, Failed}
 use Rattle.source_meaning.specs.Meaning.{source_outcome}
+use Rattle.tx_context.specs.World.{World}
 use Rattle.script_codec.specs.declared.instr.Instr.{Instr}
 use Rattle.script_codec.specs.declared.spans.Spanned.{Spanned}
 use Rattle.script_codec.specs.Spelling.{are_instructions}
-use Rattle.bch_vm.specs.declared.failure.Failure.{Failure}
 use Rattle.bch_vm.specs.Stack.{Stack}
-use Rattle.bch_vm.specs.Script.{State, run_end, run_outcome}
+use Rattle.bch_vm.specs.Script.{State, run_end, run_outcome, Failure}
 use Rattle.span_map.specs.declared.SpanRow.{SpanRow}
 use Rattle.span_map.specs.Places.{place_of}
 use Rattle.cash_compile.specs.Rows.{instructions, places}
+use Rattle.unlocker.specs.Scripts.{handed_in}
 
 -- the run of the machine ended with exactly one element, of this truth
 abbrev pub EndsIn : Bool → Result Stack Failure → Type 0
@@ -40,14 +40,15 @@ abbrev pub AgreesAlone : SourceOutcome → Result Stack Failure → Type 0
 AgreesAlone Met outcome = EndsIn true outcome
 AgreesAlone (Failed span cause) outcome = FailsOrEndsFalse outcome
 
--- The contract has one function and no constructor parameters, and for every list of argument elements of the right
--- count, the first on top, the run of the code agrees with the run of the source.
-pub record DecidesByRun (contract : Contract Slot Ty) (code : List Instr) : Type 0 where
-  pub function : Function Slot Ty
-  pub only : contract.functions ≡ function ∷ []
-  pub alone : contract.params ≡ []
-  pub agrees : (args : List (List ℕ)) → length args ≡ length function.params → AllByRecursion IsElement args
-      → AgreesAlone (source_outcome contract [] function args) (run_outcome code args)
+-- For elements of the constructor and of a function, as many as there are parameters, and every world: the run of the code on
+-- what the pushes leave, the constructor's first on top, agrees with the run of the source, however long the redeem script is.
+abbrev pub DecidesByRun : Contract Slot Ty → List Instr → Type 0
+DecidesByRun contract code =
+    (ctor : List (List ℕ)) (chosen : ℕ) (function : Function Slot Ty) (args : List (List ℕ)) (world : World)
+    → length ctor ≡ length contract.params → slice_get contract.functions chosen ≡ Some function
+    → length args ≡ length function.params → AllByRecursion IsElement ctor → AllByRecursion IsElement args
+    → AgreesAlone (source_outcome contract ctor function args world)
+    (run_outcome code (ctor ++ handed_in (length contract.functions) chosen args))
 
 -- ---- with places
 
@@ -73,12 +74,12 @@ EndsAs rows Met end = (s : State) × (end ≡ Ok s) × LeavesOne true s
 EndsAs rows (Failed span cause) end = FailsAt rows span cause end ⊎ EndsFalseAt rows span cause end
 
 -- The contract has one function and no constructor parameters, and for every list of argument elements of the right
--- count, the first on top, the run of the rows ends as the run of the source.
+-- count, the first on top, and every world, the run of the rows ends as the run of the source.
 pub record AgreesByRun (contract : Contract Slot Ty) (rows : List Spanned) : Type 0 where
   pub function : Function Slot Ty
   pub only : contract.functions ≡ function ∷ []
   pub alone : contract.params ≡ []
   pub few : length function.params ≤ 16
   pub spelled : IsTrue (are_instructions (instructions rows))
-  pub agrees : (args : List (List ℕ)) → length args ≡ length function.params → AllByRecursion IsElement args
-      → EndsAs (map places rows) (source_outcome contract [] function args) (run_end (instructions rows) args)
+  pub agrees : (args : List (List ℕ)) (world : World) → length args ≡ length function.params → AllByRecursion IsElement args
+      → EndsAs (map places rows) (source_outcome contract [] function args world) (run_end (instructions rows) args)
