@@ -5,7 +5,7 @@ use Rattle.std.specs.Int.{is_negative}
 use Rattle.std.proofs.lemmas.Bool.{and_parts, le-ltb, cases_lt, cases_eq, leb-true}
 use Rattle.std.proofs.lemmas.Bool.Decides.{nat_tests}
 use Rattle.cash_base.specs.Number.{magnitude, has_sign, is_minimal, number_of, signed, digits, with_sign, minimal_bytes, IsBytes}
-use Rattle.cash_base.proofs.Writing.{digits_step, digits_zero, sign_in, sign_behind}
+use Rattle.cash_base.proofs.Writing.{digits_step, digits_zero, sign_in, sign_after}
 use Rattle.cash_base.proofs.Reading.{number_read, below_limit}
 
 -- ---- the element of a sign and a magnitude has them
@@ -25,9 +25,9 @@ two_bytes : (negative : Bool) (n : ℕ) → 128 ≤ n → n < 256 → Spells neg
 two_bytes true n h s = record { some = omega arith; magnitude_is = omega arith; sign_is = refl; minimal = grind (arith, nat_tests) }
 two_bytes false n h s = record { some = omega arith; magnitude_is = omega arith; sign_is = refl; minimal = grind (arith, nat_tests) }
 
-minimal_behind : (b c : ℕ) (bs : List ℕ) → is_minimal (c ∷ bs) ≡ true → is_minimal (b ∷ c ∷ bs) ≡ true
-minimal_behind b c [] h = ap (λ t. t || leb 128 b) h
-minimal_behind b c (d ∷ bs) h = h
+minimal_after : (b c : ℕ) (bs : List ℕ) → is_minimal (c ∷ bs) ≡ true → is_minimal (b ∷ c ∷ bs) ≡ true
+minimal_after b c [] h = ap (λ t. t || leb 128 b) h
+minimal_after b c (d ∷ bs) h = h
 
 more_bytes : (negative : Bool) (b n : ℕ) (e : List ℕ) → Spells negative n e → Spells negative (b + 256 * n) (b ∷ e)
 more_bytes negative b n [] s = let none : 1 ≤ 0 = s.some in absurd (omega (arith, none))
@@ -35,7 +35,7 @@ more_bytes negative b n (c ∷ bs) s = record {
   some = omega arith;
   magnitude_is = ap (λ m. b + 256 * m) s.magnitude_is;
   sign_is = s.sign_is;
-  minimal = minimal_behind b c bs s.minimal;
+  minimal = minimal_after b c bs s.minimal;
 }
 
 sign_passes : (negative : Bool) (b : ℕ) (ds : List ℕ) → 1 ≤ length (with_sign negative ds) → with_sign negative (b ∷ ds) ≡ b ∷ with_sign negative ds
@@ -58,7 +58,7 @@ digits_spell negative (suc places) n h fits = by_size (cases_lt n 256) (λ p q. 
 
     at_top : n < 256 → (n < 128) ⊎ (128 ≤ n) → Spells negative n (with_sign negative (n ∷ []))
     at_top small (inl low) = subst (Spells negative n) (sym (sign_in [] n negative low)) (one_byte negative n h low)
-    at_top small (inr high) = subst (Spells negative n) (sym (sign_behind [] n negative high)) (two_bytes negative n high small)
+    at_top small (inr high) = subst (Spells negative n) (sym (sign_after [] n negative high)) (two_bytes negative n high small)
 
     further : 256 ≤ n → Spells negative (n / 256) (with_sign negative (digits places (n / 256))) → Spells negative n (with_sign negative (digits (suc places) n))
     further large s =
@@ -133,7 +133,7 @@ sign_again : (a b places : ℕ) → a < 256 → b < 256 → b % 128 ≡ 0 → is
 sign_again a b places s t z m =
     let high : 128 ≤ a = grind (arith, nat_tests, m, z) in
     let alone : cond (leb 128 b) 128 0 ≡ b = grind (arith, nat_tests, z) in
-    ap (λ ds. with_sign (leb 128 b) (a ∷ ds)) (digits_zero places 0 refl) ∙ sign_behind [] a (leb 128 b) high ∙ ap (λ x. a ∷ x ∷ []) alone
+    ap (λ ds. with_sign (leb 128 b) (a ∷ ds)) (digits_zero places 0 refl) ∙ sign_after [] a (leb 128 b) high ∙ ap (λ x. a ∷ x ∷ []) alone
 
 joined_again : (negative : Bool) (a places n : ℕ) (e : List ℕ) → a < 256 → 0 < n → 1 ≤ length e → with_sign negative (digits places n) ≡ e → with_sign negative (digits (suc places) (a + 256 * n)) ≡ a ∷ e
 joined_again negative a places n e s h some again =

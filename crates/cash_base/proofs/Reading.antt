@@ -53,8 +53,8 @@ decided_in_front x (y ∷ ys) n s = grind (arith, nat_tests)
 
 pub truth_found : (e : List ℕ) (i : ℕ) → i < length e → get_or e i 0 ≢ 0 → get_or e i 0 < 256 → truth_of (drop i e) ≡ (ltb (i + 1) (length e) || not (eqb (get_or e i 0) 128))
 truth_found e i h n s =
-    let behind : ltb 0 (length (drop (suc i) e)) ≡ ltb (i + 1) (length e) = grind (arith, nat_tests, length-drop (suc i) e) in
-    rw (drop-cons e i 0) (decided_in_front (get_or e i 0) (drop (suc i) e) n s) ∙ ap (λ b. b || not (eqb (get_or e i 0) 128)) behind
+    let after : ltb 0 (length (drop (suc i) e)) ≡ ltb (i + 1) (length e) = grind (arith, nat_tests, length-drop (suc i) e) in
+    rw (drop-cons e i 0) (decided_in_front (get_or e i 0) (drop (suc i) e) n s) ∙ ap (λ b. b || not (eqb (get_or e i 0) 128)) after
 
 pub number_read : (e : List ℕ) → length e ≤ 8 → is_minimal e ≡ true → number_of e ≡ Some (signed (has_sign e) (magnitude e))
 number_read e short minimal = cond-true (leb (length e) 8 && is_minimal e) _ _ (and_from _ _ (le-leb (length e) 8 short) minimal)

@@ -33,15 +33,15 @@ sign_in [] top negative h = ap (λ b. cond b ((top + cond negative 128 0) ∷ []
 sign_in (x ∷ []) top negative h = ap (λ l. x ∷ l) (sign_in [] top negative h)
 sign_in (x ∷ y ∷ front) top negative h = ap (λ l. x ∷ l) (sign_in (y ∷ front) top negative h)
 
-pub sign_behind : (front : List ℕ) (top : ℕ) (negative : Bool) → 128 ≤ top → with_sign negative (front ++ top ∷ []) ≡ front ++ top ∷ cond negative 128 0 ∷ []
-sign_behind [] top negative h = ap (λ b. cond b ((top + cond negative 128 0) ∷ []) (top ∷ cond negative 128 0 ∷ [])) (le-ltb top 128 h)
-sign_behind (x ∷ []) top negative h = ap (λ l. x ∷ l) (sign_behind [] top negative h)
-sign_behind (x ∷ y ∷ front) top negative h = ap (λ l. x ∷ l) (sign_behind (y ∷ front) top negative h)
+pub sign_after : (front : List ℕ) (top : ℕ) (negative : Bool) → 128 ≤ top → with_sign negative (front ++ top ∷ []) ≡ front ++ top ∷ cond negative 128 0 ∷ []
+sign_after [] top negative h = ap (λ b. cond b ((top + cond negative 128 0) ∷ []) (top ∷ cond negative 128 0 ∷ [])) (le-ltb top 128 h)
+sign_after (x ∷ []) top negative h = ap (λ l. x ∷ l) (sign_after [] top negative h)
+sign_after (x ∷ y ∷ front) top negative h = ap (λ l. x ∷ l) (sign_after (y ∷ front) top negative h)
 
 -- where the last of the digits is known
 pub sign_in_top : (digits front : List ℕ) (top sign : ℕ) (negative : Bool) → digits ≡ front ++ top ∷ [] → top < 128 → sign ≡ cond negative 128 0 → front ++ (top + sign) ∷ [] ≡ with_sign negative digits
 sign_in_top digits front top sign negative is low bit = ap (λ s. front ++ (top + s) ∷ []) bit ∙ sym (ap (with_sign negative) is ∙ sign_in front top negative low)
 
-pub sign_behind_top : (digits front : List ℕ) (top sign : ℕ) (negative : Bool) → digits ≡ front ++ top ∷ [] → 128 ≤ top → sign ≡ cond negative 128 0 → (front ++ top ∷ []) ++ sign ∷ [] ≡ with_sign negative digits
-sign_behind_top digits front top sign negative is high bit =
-    append_assoc front (top ∷ []) (sign ∷ []) ∙ ap (λ s. front ++ top ∷ s ∷ []) bit ∙ sym (ap (with_sign negative) is ∙ sign_behind front top negative high)
+pub sign_after_top : (digits front : List ℕ) (top sign : ℕ) (negative : Bool) → digits ≡ front ++ top ∷ [] → 128 ≤ top → sign ≡ cond negative 128 0 → (front ++ top ∷ []) ++ sign ∷ [] ≡ with_sign negative digits
+sign_after_top digits front top sign negative is high bit =
+    append_assoc front (top ∷ []) (sign ∷ []) ∙ ap (λ s. front ++ top ∷ s ∷ []) bit ∙ sym (ap (with_sign negative) is ∙ sign_after front top negative high)

@@ -2,7 +2,8 @@ pub mod Element
 pub mod Failing
 pub mod Kept
 pub mod Number
+pub mod Operand
 pub mod Outside
+pub mod Push
 pub mod Real
 pub mod Source
-pub mod Width

@@ -10,20 +10,15 @@ pub mod outside;
 pub mod place;
 pub mod real;
 pub mod sure;
-pub mod width;
+pub mod value;
 
 pub use element::{Element, MAX_ELEMENT_LEN};
 pub use fault::{Cause, MachineCause, Memory};
 pub use look::{Look0, LookAt};
 pub use memory::{MemorySink, MemoryStore};
-pub use number::{read_number, truth, write_number};
+pub use number::{operand, read_number, truth, write_number};
 pub use outside::{Sink, SinkFailed, Store, StoreStop};
 pub use place::{Slot, Span, text_at};
 pub use real::{FileStore, StreamSink};
 pub use sure::{SureSink, SureStore};
-pub use width::{of_width, shortest};
-
-#[cfg(test)]
-mod number_tests;
-#[cfg(test)]
-mod outside_tests;
+pub use value::TypedValue;

@@ -15,7 +15,7 @@ pub enum Look0 {
     OutputCount,
     /// The index of the input that is spent.
     ActiveIndex,
-    /// The bytecode that is run, from behind the latest code separator.
+    /// The bytecode that is run, from after the latest code separator.
     ActiveBytecode,
 }
 

@@ -1,4 +1,4 @@
-//! A store and a sink in memory, which fail on the calls that they are told to.
+//! A store and a sink in memory, which fail on chosen calls.
 
 ghost use Rattle.std.specs.Prelude.{◌≡◌, ◌≢◌, ◌↔◌, ℕ, ◌+◌, ◌-◌, ◌^◌, ◌≤◌, ◌<◌, List, [], ◌++◌, length, take, Option, Some, option_map, IsTrue, IsOk, IsErr, IfOk, vec_len, vec_capacity};
 ghost use Rattle.cash_base.specs.Outside.{Reads, Writes, Rose, file_named as named};

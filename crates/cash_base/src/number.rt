@@ -4,9 +4,11 @@ ghost use Rattle.std.specs.Prelude.{◌≡◌, ◌<◌, ◌≤◌, ◌*◌, ◌^
 ghost use Rattle.arrayvec.specs.ArrayVec.{array_vec_len};
 ghost use Rattle.cash_base.specs.Element.{IsElement};
 ghost use Rattle.cash_base.specs.Number;
+ghost use Rattle.cash_base.specs.Operand.{operand_number};
 ghost use Rattle.cash_base.specs.Number.{number_of, minimal_bytes, truth_of, with_sign, IsBytes};
 
 use crate::element::Element;
+use crate::fault::Cause;
 
 /// A number has at most so many bytes.
 const PLACES: usize = 8;
@@ -23,6 +25,13 @@ pub fn read_number(e: &[u8]) -> Option<i64>
     }
     let n = magnitude(e) as i64;
     Some(if has_sign(e) { -n } else { n })
+}
+
+/// The number of an operand, or `NotANumber`. It takes no memory.
+pub fn operand(e: &[u8]) -> Result<i64, Cause>
+    ensures { result ≡ operand_number e.now }
+{
+    read_number(e).ok_or(Cause::NotANumber)
 }
 
 /// Whether it is the shortest element of its number.
@@ -51,9 +60,9 @@ fn magnitude(e: &[u8]) -> u64
     }
 }
 
-/// Whether the highest bit of the last byte is set.
+/// Whether an element has a sign, which is the highest bit of its last byte. It takes no memory.
 #[tactic(auto, using(crate::proofs::Reading::sign_last))]
-pub(crate) fn has_sign(e: &[u8]) -> bool
+pub fn has_sign(e: &[u8]) -> bool
     ensures { result ≡ Number.has_sign e.now }
 {
     match e {
@@ -68,7 +77,7 @@ pub fn write_number(n: i64) -> Element
     requires { negsuc 9223372036854775807 <ℤ n }
     ensures { result.items ≡ minimal_bytes n }
 {
-    signed(digits(n.unsigned_abs()), n < 0)
+    with_sign(digits(n.unsigned_abs()), n < 0)
 }
 
 /// The digits to the base 256, the lowest first and the highest not zero.
@@ -95,9 +104,10 @@ fn sign_bit(negative: bool) -> u8
     if negative { 128 } else { 0 }
 }
 
-/// Puts the sign into the highest bit of the last byte, or behind it where that bit is taken.
-#[tactic(auto, using(crate::proofs::Writing::sign_in_top, crate::proofs::Writing::sign_behind_top, crate::proofs::Widths::room_behind))]
-pub(crate) fn signed(mut digits: Element, negative: bool) -> Element
+/// The element of these digits, the lowest first, with a sign: in the highest bit of the last byte, or in a byte of its own
+/// where that bit is taken. No digits have no sign. With its sign it has at most 520 bytes. It takes no memory.
+#[tactic(auto, using(crate::proofs::Writing::sign_in_top, crate::proofs::Writing::sign_after_top, crate::proofs::Widths::room_after))]
+pub fn with_sign(mut digits: Element, negative: bool) -> Element
     requires { length (with_sign negative digits.items) ≤ 520 }
     ensures { result.items ≡ with_sign negative digits.items }
 {
@@ -137,7 +147,8 @@ pub fn number_of_written()
 
 /// The minimal bytes of the number of `e` are `e`; the number is above -(2^63) and below 2^63.
 pub fn written_of_number()
-    ensures { (e : List ℕ) (n : ℤ) → IsBytes e → number_of e ≡ Some n → (minimal_bytes n ≡ e) × (unsigned_abs n < 2 ^ 63) }
+    ensures { (e : List ℕ) (n : ℤ) → IsBytes e → number_of e ≡ Some n
+        → (minimal_bytes n ≡ e) × (unsigned_abs n < 2 ^ 63) }
 {}
 
 /// The minimal bytes of any number are an element.

@@ -4,6 +4,8 @@ ghost use Rattle.std.specs.Prelude.{◌≡◌, ◌≢◌, ℕ, List, [], Option}
 ghost use Rattle.cash_base.specs.Outside.{Files, Reads, Writes};
 
 use std::alloc::AllocError;
+use std::error::Error;
+use std::fmt;
 
 /// Why a store gives no file.
 #[derive(Clone, Copy, Debug, PartialEq, Eq)]
@@ -15,6 +17,18 @@ pub enum StoreStop {
     /// Memory ran out.
     Memory,
 }
+
+impl fmt::Display for StoreStop {
+    fn fmt<W: fmt::Write>(&self, f: &mut fmt::Formatter<W>) -> fmt::Result {
+        f.write_str(match self {
+            StoreStop::Failed => "the file can't be read",
+            StoreStop::TooLong => "the file is too long",
+            StoreStop::Memory => "out of memory",
+        })
+    }
+}
+
+impl Error for StoreStop {}
 
 impl From<AllocError> for StoreStop {
     ghost use Rattle.cash_base.specs.declared.outside.StoreStop.TheVariants.{Memory};
@@ -29,6 +43,14 @@ impl From<AllocError> for StoreStop {
 /// A sink had a fault.
 #[derive(Clone, Copy, Debug, PartialEq, Eq)]
 pub struct SinkFailed;
+
+impl fmt::Display for SinkFailed {
+    fn fmt<W: fmt::Write>(&self, f: &mut fmt::Formatter<W>) -> fmt::Result {
+        f.write_str("the bytes can't be written")
+    }
+}
+
+impl Error for SinkFailed {}
 
 /// What files are read from.
 ///
@@ -58,7 +80,7 @@ pub trait Sink {
 
     ghost faults: { Self → ℕ };
 
-    /// Writes these bytes, of which there is at least one, behind what was written.
+    /// Writes these bytes, of which there is at least one, after what was written.
     ///
     /// `SinkFailed` comes only at a fault, and some front of the bytes was then written. It takes no memory.
     fn write_all(&mut self, bytes: &[u8]) -> Result<(), SinkFailed>

@@ -1,4 +1,5 @@
 mod Pairs
+mod Widths
 mod Values
 mod Digests
 mod Obeying

@@ -10,16 +10,16 @@ use Rattle.cash_base.specs.declared.fault.Cause.TheVariants.{NotANumber, NumberR
 use Rattle.cash_base.specs.Failing.{◌>>=◌}
 use Rattle.cash_base.specs.Element.{IsElement}
 use Rattle.cash_base.specs.Number.{number_of, IsBytes}
-use Rattle.cash_base.specs.Width.{shortest, of_width}
+use Rattle.element_ops.specs.Width.{shortest, of_width}
 use Rattle.cash_base.proofs.Reading.{number_read}
-use Rattle.cash_base.proofs.Widths.{shortest-IsShortestOf, of_width-HasWidth}
+use Rattle.element_ops.proofs.Widths.{shortest-IsShortestOf, of_width-HasWidth}
 use Rattle.element_ops.specs.declared.op.Op1.{Op1}
 use Rattle.element_ops.specs.declared.op.Op1.TheVariants as one
 use Rattle.element_ops.specs.declared.op.Op2.{Op2}
 use Rattle.element_ops.specs.declared.op.Op2.TheVariants as two
 use Rattle.element_ops.specs.declared.op.Op3.{Op3}
 use Rattle.element_ops.specs.declared.op.Op3.TheVariants as three
-use Rattle.element_ops.specs.Operand.{operand_number, number_or_cause}
+use Rattle.cash_base.specs.Operand.{operand_number, number_or_cause}
 use Rattle.element_ops.specs.Operation.{Outcome, pairwise, bytewise, joined, shortened, padded, cut}
 use Rattle.element_ops.specs.Causes.{Kind, Kind.number, Kind.truth, Kind.bytes, Obeys, Obeys1, Obeys2, Obeys3, ObeysSplit, split_causes}
 use Rattle.element_ops.proofs.Values.{first_cause, more_causes, fails-Obeys, truth-Obeys, written-Obeys, within-Obeys, number-Obeys, reads-Obeys, unsigned_abs-neg, unsigned_abs-int_div, unsigned_abs-int_rem, least-Obeys, greatest-Obeys, divided-Obeys}
@@ -30,9 +30,9 @@ use Rattle.element_ops.proofs.Digests.{IsBytes-append, ripemd160-IsElement, sha1
 bytes-Obeys : (e : List ℕ) → IsElement e → Obeys [] bytes (Ok e)
 bytes-Obeys e element = record { element = element; kind_is = tt; cause = tt }
 
-IsBytes-reverse_aux : (xs behind : List ℕ) → IsBytes xs → IsBytes behind → IsBytes (reverse_aux xs behind)
-IsBytes-reverse_aux [] behind h k = k
-IsBytes-reverse_aux (x ∷ xs) behind h k = IsBytes-reverse_aux xs (x ∷ behind) h.1 (h.0, k)
+IsBytes-reverse_aux : (xs after : List ℕ) → IsBytes xs → IsBytes after → IsBytes (reverse_aux xs after)
+IsBytes-reverse_aux [] after h k = k
+IsBytes-reverse_aux (x ∷ xs) after h k = IsBytes-reverse_aux xs (x ∷ after) h.1 (h.0, k)
 
 IsBytes-reverse : (xs : List ℕ) → IsBytes xs → IsBytes (reverse xs)
 IsBytes-reverse xs h = IsBytes-reverse_aux xs [] h tt

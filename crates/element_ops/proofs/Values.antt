@@ -4,13 +4,14 @@ use Rattle.std.specs.Prelude.{unsigned_abs, int_div, int_rem, Contains}
 use Rattle.std.specs.Int.{int_min, int_max}
 use Rattle.std.proofs.lemmas.Bool.{lt-ltb, ltb-true}
 use Rattle.cash_base.specs.declared.fault.Cause.{Cause}
+use Rattle.cash_base.specs.Operand.{operand_number, number_or_cause}
 use Rattle.cash_base.specs.declared.fault.Cause.TheVariants.{NotANumber, NumberRange, DivideByZero}
 use Rattle.cash_base.specs.Failing.{◌>>=◌}
 use Rattle.cash_base.specs.Element.{IsElement}
 use Rattle.cash_base.specs.Number.{number_of, minimal_bytes}
 use Rattle.cash_base.proofs.Laws.{number_of-minimal_bytes, minimal_bytes-number_of}
 use Rattle.cash_base.proofs.Widths.{minimal_bytes-IsElement}
-use Rattle.element_ops.specs.Operand.{operand_number, number_or_cause, is_in_range, number_element, truth_element}
+use Rattle.element_ops.specs.Operand.{is_in_range, number_element, truth_element}
 use Rattle.element_ops.specs.Operation.{Outcome, is_set, divided}
 use Rattle.element_ops.specs.Causes.{Kind, Kind.number, Kind.truth, Obeys}
 
@@ -57,7 +58,7 @@ number-Obeys n = by_size (is_in_range n) refl
 
 -- ---- operands
 
--- the rest of an operation behind an operand that is read as a number
+-- the rest of an operation after an operand that is read as a number
 pub reads-Obeys : (a : List ℕ) (causes : List Cause) (kind : Kind) (f : ℤ → Outcome) → IsElement a → Contains causes NotANumber → ((x : ℤ) → unsigned_abs x < 2 ^ 63 → Obeys causes kind (f x)) → Obeys causes kind (operand_number a >>= f)
 reads-Obeys a causes kind f element listed obeys = by_number (number_of a) refl
   where

@@ -10,7 +10,7 @@ use Rattle.element_ops.specs.declared.op.Op2.{Op2}
 use Rattle.element_ops.specs.declared.op.Op2.TheVariants.{Add, Sub, Mul, Div, Mod, Min, Max, Less, Greater, LessEqual, GreaterEqual, NumEqual, NumNotEqual, BoolAnd, BoolOr, Equal, And, Or, Xor, Cat, Pad}
 use Rattle.element_ops.specs.declared.op.Op3.{Op3}
 use Rattle.element_ops.specs.declared.op.Op3.TheVariants.{Within}
-use Rattle.element_ops.specs.Operand.{truth_bytes}
+use Rattle.cash_base.specs.Operand.{truth_bytes}
 use Rattle.element_ops.specs.Operation.{Outcome, Row1, Row1.of_number, Row1.of_bytes, table1, Row2, Row2.of_numbers, Row2.of_elements, Row2.of_sized, table2, Row3, Row3.of_three, table3, result1, result2, result3, split_parts}
 
 -- ---- causes

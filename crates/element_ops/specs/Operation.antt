@@ -1,14 +1,15 @@
 -- The operations that a contract's source and the machine share, as the Bitcoin Cash specification has them. Elements
--- stand here as their bytes. Arithmetic is on whole numbers without bound, and the range is tested behind it.
+-- stand here as their bytes. Arithmetic is on whole numbers without bound, and the range is tested after it.
 use Rattle.std.specs.Prelude.{ℕ, ◌+◌, ◌==◌, Bool, not, ◌&&◌, ◌||◌, nat_le, if◌then◌else◌, List, [], ◌∷◌, ◌++◌, length, take, drop, reverse, bit_and, bit_or, bit_xor, ℤ, pos, negsuc, ◌+ℤ◌, ◌-ℤ◌, ◌*ℤ◌, neg_ℤ, unsigned_abs, int_lt, int_le, int_div, int_rem, Result, Ok, Err}
 use Rattle.std.specs.Int.{int_min, int_max}
 use Rattle.std.specs.Ordering.{int_eq}
 use Rattle.std.specs.Str.{bytes_eq}
 use Rattle.cash_base.specs.declared.fault.Cause.{Cause}
+use Rattle.cash_base.specs.Operand.{operand_number}
 use Rattle.cash_base.specs.declared.fault.Cause.TheVariants.{NumberRange, DivideByZero, SplitRange, PadSize, Oversize, LengthDiffers}
 use Rattle.cash_base.specs.Failing.{◌>>=◌}
 use Rattle.cash_base.specs.Number.{minimal_bytes}
-use Rattle.cash_base.specs.Width.{shortest, of_width}
+use Rattle.element_ops.specs.Width.{shortest, of_width}
 use Rattle.ripemd160.specs.Ripemd160.{ripemd160}
 use Rattle.sha1.specs.Sha1.{sha1}
 use Rattle.sha2.specs.Sha256.{sha256}
@@ -18,7 +19,7 @@ use Rattle.element_ops.specs.declared.op.Op2.{Op2}
 use Rattle.element_ops.specs.declared.op.Op2.TheVariants.{Add, Sub, Mul, Div, Mod, Min, Max, Less, Greater, LessEqual, GreaterEqual, NumEqual, NumNotEqual, BoolAnd, BoolOr, Equal, And, Or, Xor, Cat, Pad}
 use Rattle.element_ops.specs.declared.op.Op3.{Op3}
 use Rattle.element_ops.specs.declared.op.Op3.TheVariants.{Within}
-use Rattle.element_ops.specs.Operand.{operand_number, number_element, truth_element}
+use Rattle.element_ops.specs.Operand.{number_element, truth_element}
 
 -- what an operation gives
 abbrev pub Outcome : Type 0

@@ -8,7 +8,7 @@ use Rattle.element_ops.specs.declared.op.Op3.{Op3}
 use Rattle.element_ops.specs.declared.op.Op3.TheVariants.{Within}
 use Rattle.element_ops.specs.declared.bytes.Bits.{Bits}
 use Rattle.element_ops.specs.declared.bytes.Bits.TheVariants as bits
-use Rattle.element_ops.specs.Operand.{operand_number}
+use Rattle.cash_base.specs.Operand.{operand_number}
 use Rattle.element_ops.specs.Operation.{Outcome, Row1, Row1.of_number, table1, Row2, Row2.of_numbers, table2, padded}
 
 -- both operands are read as numbers

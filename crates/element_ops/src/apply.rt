@@ -7,12 +7,12 @@ use crate::bytes::{Bits, backwards, bytewise, join, pad, shorten};
 use crate::hashes::{hash160, hash256, ripemd160_element, sha1_element, sha256_element};
 use crate::numbers::{on_number, on_numbers, on_three};
 use crate::op::{Op1, Op2, Op3};
-use crate::operand::{operand, truth_element};
-use cash_base::{Cause, Element, write_number};
+use crate::operand::truth_element;
+use cash_base::{Cause, Element, operand, write_number};
 
-/// Applies an operation to an element.
+/// Applies an operation to an element of at most 520 bytes.
 ///
-/// The answer is the element or the cause of the table `result1`. It takes no memory.
+/// The answer is what the operation's row of `table1` gives: an element or a cause. It takes no memory.
 pub fn apply1(op: Op1, a: &[u8]) -> Result<Element, Cause>
     requires { length a.now ≤ 520 }
     ensures value { IfOk result (λ e. result1 op a.now ≡ Ok e.items) }
@@ -31,9 +31,9 @@ pub fn apply1(op: Op1, a: &[u8]) -> Result<Element, Cause>
     }
 }
 
-/// Applies an operation to two elements, of which the first lies deeper.
+/// Applies an operation to two elements of at most 520 bytes, of which the first lies deeper.
 ///
-/// The answer is the element or the cause of the table `result2`. It takes no memory.
+/// The answer is what the operation's row of `table2` gives: an element or a cause. It takes no memory.
 pub fn apply2(op: Op2, a: &[u8], b: &[u8]) -> Result<Element, Cause>
     requires first { length a.now ≤ 520 }
     requires second { length b.now ≤ 520 }
@@ -51,9 +51,9 @@ pub fn apply2(op: Op2, a: &[u8], b: &[u8]) -> Result<Element, Cause>
     }
 }
 
-/// Applies an operation to three elements, of which the first lies deepest.
+/// Applies an operation to three elements of at most 520 bytes, of which the first lies deepest.
 ///
-/// The answer is the element or the cause of the table `result3`. It takes no memory.
+/// The answer is what the operation's row of `table3` gives: an element or a cause. It takes no memory.
 pub fn apply3(op: Op3, a: &[u8], b: &[u8], c: &[u8]) -> Result<Element, Cause>
     requires first { length a.now ≤ 520 }
     requires second { length b.now ≤ 520 }

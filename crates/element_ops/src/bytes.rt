@@ -5,9 +5,9 @@ ghost use Rattle.element_ops.specs.Operation;
 ghost use Rattle.element_ops.specs.Operation.{joined, shortened, split_parts, cut};
 ghost use Rattle.element_ops.specs.Reads.{bit_of, padded_to};
 
-use crate::operand::operand;
+use crate::width::{of_width, shortest};
 use cash_base::element::copy_of;
-use cash_base::{Cause, Element, MAX_ELEMENT_LEN, of_width, shortest};
+use cash_base::{Cause, Element, MAX_ELEMENT_LEN, operand};
 
 /// An operation on the bits of two bytes.
 #[derive(Clone, Copy)]

@@ -75,7 +75,7 @@ pub enum Op2 {
     Or,
     /// The bits that just one of them has.
     Xor,
-    /// The bytes of the first, and behind them those of the second.
+    /// The bytes of the first, and after them those of the second.
     Cat,
     /// The first element as a number of so many bytes as the second says (NUM2BIN).
     Pad,

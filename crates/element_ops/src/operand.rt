@@ -2,16 +2,9 @@
 
 ghost use Rattle.std.specs.Prelude.{◌≡◌, Ok, Err, IfOk, IfErr};
 ghost use Rattle.element_ops.specs.Operand;
-ghost use Rattle.element_ops.specs.Operand.{operand_number, truth_bytes};
+ghost use Rattle.cash_base.specs.Operand.{truth_bytes};
 
-use cash_base::{Cause, Element, read_number, write_number};
-
-/// The number of an operand, or `NotANumber`.
-pub fn operand(e: &[u8]) -> Result<i64, Cause>
-    ensures { result ≡ operand_number e.now }
-{
-    read_number(e).ok_or(Cause::NotANumber)
-}
+use cash_base::{Cause, Element, write_number};
 
 /// The element of a number, or `NumberRange` where no element stands for it.
 pub fn number_element(n: i128) -> Result<Element, Cause>

@@ -43,7 +43,7 @@ joined_lines block words h left right next is_words is_left is_right is_next =
 -- a list, written over the front of m zeros, then one byte, z zeros and more bytes
 pub closed_bytes : (rest bits : List ℕ) (x m r j a k e z y : ℕ) → r ≡ length rest → j ≡ r → a ≡ r + 1 + z → e ≡ a + length bits
     → m ≡ a + y → take e (put_mid a k (set (rest ++ drop j (replicate m 0)) r x) bits) ≡ rest ++ (x ∷ replicate z 0 ++ bits)
-closed_bytes rest bits x m r j a k e z y at from behind end room =
+closed_bytes rest bits x m r j a k e z y at from after end room =
     let left : m - j ≡ suc (z + y) = omega arith in
     let zeros : drop {A = ℕ} j (replicate m 0) ≡ 0 ∷ replicate (z + y) 0 = rw (drop-replicate, left) refl in
     let front : List ℕ = rest ++ x ∷ replicate z 0 in
@@ -62,20 +62,20 @@ pub last_bytes : (rest ys zs : List ℕ) (n r j a k e : ℕ) → ys ≡ rest →
 last_bytes rest ys zs n r j a k e is_rest is_bits used at from end field =
     let z : ℕ = (119 - n % 64) % 64 in
     let same : n % 64 ≡ r = omega arith in
-    let behind : a ≡ r + 1 + z = rw same (omega arith) in
+    let after : a ≡ r + 1 + z = rw same (omega arith) in
     rw (is_rest, is_bits)
-    (closed_bytes rest (to_le_bytes w64 (8 * n % 2 ^ 64)) 0x80 128 r j a k e z (128 - a) at from behind field (omega arith))
+    (closed_bytes rest (to_le_bytes w64 (8 * n % 2 ^ 64)) 0x80 128 r j a k e z (128 - a) at from after field (omega arith))
 
--- the whole pieces of a list with another behind it, and then the pieces of the rest
+-- the whole pieces of a list with another after it, and then the pieces of the rest
 pub blocks_of-append : (m rest p : List ℕ) → rest ≡ drop (length m / 64 * 64) m
     → blocks_of (m ++ p) ≡ first_chunks 64 (length m / 64) m ++ blocks_of (rest ++ p)
 blocks_of-append m rest p is_rest =
     let k : ℕ = length m / 64 in
-    let behind : List ℕ = drop (k * 64) m ++ p in
-    let long : length behind ≡ length m - k * 64 + length p =
+    let after : List ℕ = drop (k * 64) m ++ p in
+    let long : length after ≡ length m - k * 64 + length p =
     length-append (drop (k * 64) m) p ∙ ap (λ (n : ℕ). n + length p) (length-drop (k * 64) m) in
-    let count : length (m ++ p) / 64 ≡ k + length behind / 64 = omega (arith, length-append m p) in
-    rw (is_rest, count) (first_chunks-append 64 k (length behind / 64) m p (omega arith))
+    let count : length (m ++ p) / 64 ≡ k + length after / 64 = omega (arith, length-append m p) in
+    rw (is_rest, count) (first_chunks-append 64 k (length after / 64) m p (omega arith))
 
 -- the whole blocks of a message, and then the blocks of its rest with the padding
 pub whole_message : (m rest : List ℕ) (blocks : List (List ℕ)) (start state next : State) → state ≡ fold compressed start blocks

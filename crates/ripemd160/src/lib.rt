@@ -8,8 +8,6 @@ ghost use Rattle.std.specs.Int.{w64, to_le_bytes};
 ghost use Rattle.ripemd160.specs.Ripemd160.{blocks_of, compressed, padding, ripemd160};
 
 mod compress;
-#[cfg(test)]
-mod tests;
 
 use compress::State;
 
@@ -24,7 +22,7 @@ fn after_blocks(start: State, blocks: &[[u8; 64]]) -> State
     state
 }
 
-// How far so many bytes, behind the last whole block, go with the byte 0x80, zeros and the length: one block or two.
+// How far so many bytes, after the last whole block, go with the byte 0x80, zeros and the length: one block or two.
 fn padded_len(used: usize) -> usize
     requires { used < 64 }
     ensures { result ≡ used + 1 + (119 - used) % 64 + 8 }
@@ -39,7 +37,7 @@ fn length_field(len: usize) -> [u8; 8]
     (len as u64).wrapping_mul(8).to_le_bytes()
 }
 
-// Goes on over what is behind the last whole block: the last bytes of a message of this length, and the padding.
+// Goes on over what is after the last whole block: the last bytes of a message of this length, and the padding.
 fn after_padding(start: State, rest: &[u8], len: usize) -> State
     requires { length rest.now ≡ len % 64 }
     ensures { result ≡ fold compressed start (blocks_of (rest.now ++ padding len)) }

@@ -7,59 +7,59 @@ use Rattle.std.specs.List.{list_all}
 use Rattle.cash_base.specs.Number.{IsBytes}
 use Rattle.script_codec.specs.declared.instr.Instr.{Instr}
 use Rattle.script_codec.specs.Spelling.{short_push, minimal_push, spelling, spellings}
-use Rattle.script_codec.specs.Reading.{Piece, Whole, CutOff, length_size, pushed_size, piece_of, size_behind, reading, first_byte, instruction, is_minimal, meaning, is_minimal_piece}
+use Rattle.script_codec.specs.Reading.{Piece, Whole, CutOff, length_size, pushed_size, piece_of, size_after, reading, first_byte, instruction, is_minimal, meaning, is_minimal_piece}
 use Rattle.script_codec.proofs.Seams.{reading_cons, reading_nil}
 use Rattle.script_codec.proofs.Round.{raw_of, low_meaning, small_meaning, do_meaning}
 
 -- an opcode in front of its bytes, and what it pushes of them
-record Pushes (opcode : ℕ) (behind pushed : List ℕ) : Type 0 where
-  pushed_is : pushed ≡ take (pushed_size opcode behind) (drop (length_size opcode) behind)
-  fits : size_behind opcode behind ≤ length behind
+record Pushes (opcode : ℕ) (after pushed : List ℕ) : Type 0 where
+  pushed_is : pushed ≡ take (pushed_size opcode after) (drop (length_size opcode) after)
+  fits : size_after opcode after ≤ length after
 
-pushed_length : (opcode : ℕ) (behind pushed : List ℕ) → Pushes opcode behind pushed → length pushed ≡ pushed_size opcode behind
-pushed_length opcode behind pushed p = ap length p.pushed_is ∙ simp (length-take, length-drop) (omega (arith, p.fits))
+pushed_length : (opcode : ℕ) (after pushed : List ℕ) → Pushes opcode after pushed → length pushed ≡ pushed_size opcode after
+pushed_length opcode after pushed p = ap length p.pushed_is ∙ simp (length-take, length-drop) (omega (arith, p.fits))
 
 -- its bytes, from the opcode on
 abbrev bytes_of : ℕ → List ℕ → List ℕ
-bytes_of opcode behind = opcode ∷ take (size_behind opcode behind) behind
+bytes_of opcode after = opcode ∷ take (size_after opcode after) after
 
-no_length : (n : ℕ) (behind : List ℕ) → n ≤ 75 → (length_size n ≡ 0) × (pushed_size n behind ≡ n)
-no_length n behind short = (grind (arith, nat_tests), grind (arith, nat_tests))
+no_length : (n : ℕ) (after : List ℕ) → n ≤ 75 → (length_size n ≡ 0) × (pushed_size n after ≡ n)
+no_length n after short = (grind (arith, nat_tests), grind (arith, nat_tests))
 
-direct : (n : ℕ) (behind pushed : List ℕ) → n ≤ 75 → Pushes n behind pushed → bytes_of n behind ≡ n ∷ pushed
-direct n behind pushed short p =
-    let sizes = no_length n behind short in
-    let size : size_behind n behind ≡ pushed_size n behind = omega (arith, sizes.0) in
-    ap (λ k. n ∷ take k behind) size ∙ ap (λ k. n ∷ take (pushed_size n behind) (drop k behind)) (sym sizes.0) ∙ ap (λ bytes. n ∷ bytes) (sym p.pushed_is)
+direct : (n : ℕ) (after pushed : List ℕ) → n ≤ 75 → Pushes n after pushed → bytes_of n after ≡ n ∷ pushed
+direct n after pushed short p =
+    let sizes = no_length n after short in
+    let size : size_after n after ≡ pushed_size n after = omega (arith, sizes.0) in
+    ap (λ k. n ∷ take k after) size ∙ ap (λ k. n ∷ take (pushed_size n after) (drop k after)) (sym sizes.0) ∙ ap (λ bytes. n ∷ bytes) (sym p.pushed_is)
 
-one_length : (behind pushed : List ℕ) → Pushes 0x4c behind pushed → bytes_of 0x4c behind ≡ 0x4c ∷ length pushed ∷ pushed
+one_length : (after pushed : List ℕ) → Pushes 0x4c after pushed → bytes_of 0x4c after ≡ 0x4c ∷ length pushed ∷ pushed
 one_length [] pushed p = absurd (omega (arith, p.fits))
 one_length (f ∷ bytes) pushed p =
     let count = pushed_length 0x4c (f ∷ bytes) pushed p in
-    let size : size_behind 0x4c (f ∷ bytes) ≡ suc (pushed_size 0x4c (f ∷ bytes)) = omega arith in
+    let size : size_after 0x4c (f ∷ bytes) ≡ suc (pushed_size 0x4c (f ∷ bytes)) = omega arith in
     let is : f ≡ length pushed = omega (arith, count) in
     ap (λ k. 0x4c ∷ take k (f ∷ bytes)) size ∙ ap (λ more. 0x4c ∷ f ∷ more) (sym p.pushed_is) ∙ ap (λ n. 0x4c ∷ n ∷ pushed) is
 
-two_lengths : (behind pushed : List ℕ) → IsBytes behind → Pushes 0x4d behind pushed → bytes_of 0x4d behind ≡ 0x4d ∷ (length pushed % 256) ∷ (length pushed / 256) ∷ pushed
+two_lengths : (after pushed : List ℕ) → IsBytes after → Pushes 0x4d after pushed → bytes_of 0x4d after ≡ 0x4d ∷ (length pushed % 256) ∷ (length pushed / 256) ∷ pushed
 two_lengths [] pushed bytes p = absurd (omega (arith, p.fits))
 two_lengths (f ∷ []) pushed bytes p = absurd (omega (arith, p.fits))
 two_lengths (f ∷ g ∷ more) pushed bytes p =
     let count = pushed_length 0x4d (f ∷ g ∷ more) pushed p in
-    let size : size_behind 0x4d (f ∷ g ∷ more) ≡ suc (suc (pushed_size 0x4d (f ∷ g ∷ more))) = omega arith in
+    let size : size_after 0x4d (f ∷ g ∷ more) ≡ suc (suc (pushed_size 0x4d (f ∷ g ∷ more))) = omega arith in
     let low : f ≡ length pushed % 256 = omega (arith, count, bytes.0) in
     let high : g ≡ length pushed / 256 = omega (arith, count, bytes.0) in
     ap (λ k. 0x4d ∷ take k (f ∷ g ∷ more)) size ∙ ap (λ rest. 0x4d ∷ f ∷ g ∷ rest) (sym p.pushed_is) ∙ ap (λ n. 0x4d ∷ n ∷ g ∷ pushed) low ∙ ap (λ n. 0x4d ∷ (length pushed % 256) ∷ n ∷ pushed) high
 
 -- a push by the opcode of its element's minimal push is that push
-push_again : (opcode : ℕ) (behind pushed : List ℕ) → IsBytes behind → opcode ≤ 0x4e → Pushes opcode behind pushed → opcode ≡ first_byte (minimal_push pushed) → bytes_of opcode behind ≡ minimal_push pushed
-push_again opcode behind [] bytes low p is = subst (λ op. Pushes op behind [] → bytes_of op behind ≡ 0 ∷ []) (sym is) (direct 0 behind [] (omega arith)) p
-push_again opcode behind (byte ∷ []) bytes low p is = by_tests (leb 1 byte && leb byte 16) (eqb byte 0x81) is
+push_again : (opcode : ℕ) (after pushed : List ℕ) → IsBytes after → opcode ≤ 0x4e → Pushes opcode after pushed → opcode ≡ first_byte (minimal_push pushed) → bytes_of opcode after ≡ minimal_push pushed
+push_again opcode after [] bytes low p is = subst (λ op. Pushes op after [] → bytes_of op after ≡ 0 ∷ []) (sym is) (direct 0 after [] (omega arith)) p
+push_again opcode after (byte ∷ []) bytes low p is = by_tests (leb 1 byte && leb byte 16) (eqb byte 0x81) is
   where
-    by_tests : (small minus : Bool) → opcode ≡ first_byte (cond small ((0x50 + byte) ∷ []) (cond minus (0x4f ∷ []) (1 ∷ byte ∷ []))) → bytes_of opcode behind ≡ cond small ((0x50 + byte) ∷ []) (cond minus (0x4f ∷ []) (1 ∷ byte ∷ []))
+    by_tests : (small minus : Bool) → opcode ≡ first_byte (cond small ((0x50 + byte) ∷ []) (cond minus (0x4f ∷ []) (1 ∷ byte ∷ []))) → bytes_of opcode after ≡ cond small ((0x50 + byte) ∷ []) (cond minus (0x4f ∷ []) (1 ∷ byte ∷ []))
     by_tests true minus e = absurd (omega (arith, low, e))
     by_tests false true e = absurd (omega (arith, low, e))
-    by_tests false false e = subst (λ op. Pushes op behind (byte ∷ []) → bytes_of op behind ≡ 1 ∷ byte ∷ []) (sym e) (direct 1 behind (byte ∷ []) (omega arith)) p
-push_again opcode behind (a ∷ b ∷ more) bytes low p is = by_tests (leb n 75) (leb n 255) refl is
+    by_tests false false e = subst (λ op. Pushes op after (byte ∷ []) → bytes_of op after ≡ 1 ∷ byte ∷ []) (sym e) (direct 1 after (byte ∷ []) (omega arith)) p
+push_again opcode after (a ∷ b ∷ more) bytes low p is = by_tests (leb n 75) (leb n 255) refl is
   where
     e : List ℕ
     e = a ∷ b ∷ more
@@ -70,19 +70,19 @@ push_again opcode behind (a ∷ b ∷ more) bytes low p is = by_tests (leb n 75)
     prefix : Bool → Bool → List ℕ
     prefix short middle = cond short (n ∷ []) (cond middle (0x4c ∷ n ∷ []) (0x4d ∷ (n % 256) ∷ (n / 256) ∷ []))
 
-    by_tests : (short middle : Bool) → leb n 75 ≡ short → opcode ≡ first_byte (prefix short middle ++ e) → bytes_of opcode behind ≡ prefix short middle ++ e
-    by_tests true middle test o = subst (λ op. Pushes op behind e → bytes_of op behind ≡ n ∷ e) (sym o) (direct n behind e (grind (arith, nat_tests, test))) p
-    by_tests false true test o = subst (λ op. Pushes op behind e → bytes_of op behind ≡ 0x4c ∷ n ∷ e) (sym o) (one_length behind e) p
-    by_tests false false test o = subst (λ op. Pushes op behind e → bytes_of op behind ≡ 0x4d ∷ (n % 256) ∷ (n / 256) ∷ e) (sym o) (two_lengths behind e bytes) p
+    by_tests : (short middle : Bool) → leb n 75 ≡ short → opcode ≡ first_byte (prefix short middle ++ e) → bytes_of opcode after ≡ prefix short middle ++ e
+    by_tests true middle test o = subst (λ op. Pushes op after e → bytes_of op after ≡ n ∷ e) (sym o) (direct n after e (grind (arith, nat_tests, test))) p
+    by_tests false true test o = subst (λ op. Pushes op after e → bytes_of op after ≡ 0x4c ∷ n ∷ e) (sym o) (one_length after e) p
+    by_tests false false test o = subst (λ op. Pushes op after e → bytes_of op after ≡ 0x4d ∷ (n % 256) ∷ (n / 256) ∷ e) (sym o) (two_lengths after e bytes) p
 
 -- ---- an opcode above 4e has no bytes of its own
 
-no_bytes : (opcode : ℕ) (behind : List ℕ) → 0x4e < opcode → bytes_of opcode behind ≡ opcode ∷ []
-no_bytes opcode behind above =
+no_bytes : (opcode : ℕ) (after : List ℕ) → 0x4e < opcode → bytes_of opcode after ≡ opcode ∷ []
+no_bytes opcode after above =
     let none : length_size opcode ≡ 0 = grind (arith, nat_tests) in
-    let empty : pushed_size opcode behind ≡ 0 = grind (arith, nat_tests) in
-    let size : size_behind opcode behind ≡ 0 = omega (arith, none, empty) in
-    ap (λ k. opcode ∷ take k behind) size
+    let empty : pushed_size opcode after ≡ 0 = grind (arith, nat_tests) in
+    let size : size_after opcode after ≡ 0 = omega (arith, none, empty) in
+    ap (λ k. opcode ∷ take k after) size
 
 small_push : (byte : ℕ) → 1 ≤ byte → byte ≤ 16 → short_push byte ≡ (0x50 + byte) ∷ []
 small_push byte some few =
@@ -90,45 +90,45 @@ small_push byte some few =
     cond-true _ _ _ test
 
 -- ---- an instruction whose opcode is that of its minimal spelling is that spelling
-instr_again : (opcode : ℕ) (behind pushed : List ℕ) → IsBytes behind → Pushes opcode behind pushed → is_minimal (raw_of opcode pushed) ≡ true → bytes_of opcode behind ≡ spelling (instruction (raw_of opcode pushed))
-instr_again opcode behind pushed bytes p minimal = by_low (cases_lt opcode 0x4f)
+instr_again : (opcode : ℕ) (after pushed : List ℕ) → IsBytes after → Pushes opcode after pushed → is_minimal (raw_of opcode pushed) ≡ true → bytes_of opcode after ≡ spelling (instruction (raw_of opcode pushed))
+instr_again opcode after pushed bytes p minimal = by_low (cases_lt opcode 0x4f)
   where
     is : opcode ≡ first_byte (spelling (instruction (raw_of opcode pushed)))
     is = grind (arith, nat_tests, minimal)
 
-    by_small : 0x50 < opcode → (opcode < 0x61) ⊎ (0x61 ≤ opcode) → bytes_of opcode behind ≡ spelling (instruction (raw_of opcode pushed))
+    by_small : 0x50 < opcode → (opcode < 0x61) ⊎ (0x61 ≤ opcode) → bytes_of opcode after ≡ spelling (instruction (raw_of opcode pushed))
     by_small above (inl below) =
         let same : 0x50 + (opcode - 0x50) ≡ opcode = omega arith in
-        no_bytes opcode behind (omega arith) ∙ ap (λ n. n ∷ []) (sym same) ∙ sym (small_push (opcode - 0x50) (omega arith) (omega arith)) ∙ ap spelling (sym (small_meaning opcode pushed above (omega arith)))
-    by_small above (inr high) = no_bytes opcode behind (omega arith) ∙ ap spelling (sym (do_meaning opcode pushed (inl (omega arith))))
+        no_bytes opcode after (omega arith) ∙ ap (λ n. n ∷ []) (sym same) ∙ sym (small_push (opcode - 0x50) (omega arith) (omega arith)) ∙ ap spelling (sym (small_meaning opcode pushed above (omega arith)))
+    by_small above (inr high) = no_bytes opcode after (omega arith) ∙ ap spelling (sym (do_meaning opcode pushed (inl (omega arith))))
 
-    by_reserved : 0x50 ≤ opcode → (opcode ≡ 0x50) ⊎ (opcode ≡ 0x50 → ⊥) → bytes_of opcode behind ≡ spelling (instruction (raw_of opcode pushed))
-    by_reserved from (inl reserved) = no_bytes opcode behind (omega arith) ∙ ap spelling (sym (do_meaning opcode pushed (inr reserved)))
+    by_reserved : 0x50 ≤ opcode → (opcode ≡ 0x50) ⊎ (opcode ≡ 0x50 → ⊥) → bytes_of opcode after ≡ spelling (instruction (raw_of opcode pushed))
+    by_reserved from (inl reserved) = no_bytes opcode after (omega arith) ∙ ap spelling (sym (do_meaning opcode pushed (inr reserved)))
     by_reserved from (inr other) = by_small (omega arith) (cases_lt opcode 0x61)
 
-    by_minus : 0x4f ≤ opcode → (opcode ≡ 0x4f) ⊎ (opcode ≡ 0x4f → ⊥) → bytes_of opcode behind ≡ spelling (instruction (raw_of opcode pushed))
-    by_minus from (inl minus) = no_bytes opcode behind (omega arith) ∙ ap (λ n. n ∷ []) minus ∙ ap (λ op. spelling (instruction (raw_of op pushed))) (sym minus)
+    by_minus : 0x4f ≤ opcode → (opcode ≡ 0x4f) ⊎ (opcode ≡ 0x4f → ⊥) → bytes_of opcode after ≡ spelling (instruction (raw_of opcode pushed))
+    by_minus from (inl minus) = no_bytes opcode after (omega arith) ∙ ap (λ n. n ∷ []) minus ∙ ap (λ op. spelling (instruction (raw_of op pushed))) (sym minus)
     by_minus from (inr other) = by_reserved (omega arith) (cases_eq opcode 0x50)
 
-    by_low : (opcode < 0x4f) ⊎ (0x4f ≤ opcode) → bytes_of opcode behind ≡ spelling (instruction (raw_of opcode pushed))
+    by_low : (opcode < 0x4f) ⊎ (0x4f ≤ opcode) → bytes_of opcode after ≡ spelling (instruction (raw_of opcode pushed))
     by_low (inl low) =
         let means = low_meaning opcode pushed (omega arith) in
-        push_again opcode behind pushed bytes (omega arith) p (is ∙ ap (λ i. first_byte (spelling i)) means) ∙ ap spelling (sym means)
+        push_again opcode after pushed bytes (omega arith) p (is ∙ ap (λ i. first_byte (spelling i)) means) ∙ ap spelling (sym means)
     by_low (inr high) = by_minus high (cases_eq opcode 0x4f)
 
-piece_again : (opcode : ℕ) (behind : List ℕ) (instr : Instr) → IsBytes behind → is_minimal_piece (piece_of opcode behind) ≡ true → meaning (piece_of opcode behind) ≡ Some instr → bytes_of opcode behind ≡ spelling instr
-piece_again opcode behind instr bytes = by_test (leb (size_behind opcode behind) (length behind)) refl
+piece_again : (opcode : ℕ) (after : List ℕ) (instr : Instr) → IsBytes after → is_minimal_piece (piece_of opcode after) ≡ true → meaning (piece_of opcode after) ≡ Some instr → bytes_of opcode after ≡ spelling instr
+piece_again opcode after instr bytes = by_test (leb (size_after opcode after) (length after)) refl
   where
     pushed : List ℕ
-    pushed = take (pushed_size opcode behind) (drop (length_size opcode) behind)
+    pushed = take (pushed_size opcode after) (drop (length_size opcode) after)
 
     piece : Bool → Piece
     piece t = cond t (Whole (raw_of opcode pushed)) CutOff
 
-    by_test : (t : Bool) → leb (size_behind opcode behind) (length behind) ≡ t → is_minimal_piece (piece t) ≡ true → meaning (piece t) ≡ Some instr → bytes_of opcode behind ≡ spelling instr
+    by_test : (t : Bool) → leb (size_after opcode after) (length after) ≡ t → is_minimal_piece (piece t) ≡ true → meaning (piece t) ≡ Some instr → bytes_of opcode after ≡ spelling instr
     by_test true test minimal means =
         let is : instruction (raw_of opcode pushed) ≡ instr = cc in
-        instr_again opcode behind pushed bytes (record { pushed_is = refl; fits = leb-true _ _ test }) minimal ∙ ap spelling is
+        instr_again opcode after pushed bytes (record { pushed_is = refl; fits = leb-true _ _ test }) minimal ∙ ap spelling is
     by_test false test minimal means = absurd (cc)
 
 all_dropped : (n : ℕ) (bytes : List ℕ) → IsBytes bytes → IsBytes (drop n bytes)
@@ -139,19 +139,19 @@ all_dropped (suc n) (b ∷ bytes) all = all_dropped n bytes all.1
 -- no other bytes whose pushes are minimal are read as this code
 pub only_spelling : (code : List Instr) (script : List ℕ) → IsBytes script → list_all is_minimal_piece (reading script) ≡ true → map meaning (reading script) ≡ map Some code → script ≡ spellings code
 only_spelling [] [] bytes minimal means = refl
-only_spelling [] (opcode ∷ behind) bytes minimal means =
-    let none : map meaning (piece_of opcode behind ∷ reading (drop (size_behind opcode behind) behind)) ≡ [] = ap (map meaning) (sym (reading_cons opcode behind)) ∙ means in
+only_spelling [] (opcode ∷ after) bytes minimal means =
+    let none : map meaning (piece_of opcode after ∷ reading (drop (size_after opcode after) after)) ≡ [] = ap (map meaning) (sym (reading_cons opcode after)) ∙ means in
     absurd (cc)
 only_spelling (instr ∷ code) [] bytes minimal means =
     let none : [] ≡ map Some (instr ∷ code) = ap (map meaning) (sym reading_nil) ∙ means in
     absurd (cc)
-only_spelling (instr ∷ code) (opcode ∷ behind) bytes minimal means =
-    let size = size_behind opcode behind in
-    let rest = drop size behind in
-    let all = and_parts (is_minimal_piece (piece_of opcode behind)) (list_all is_minimal_piece (reading rest)) (ap (list_all is_minimal_piece) (sym (reading_cons opcode behind)) ∙ minimal) in
-    let pieces : meaning (piece_of opcode behind) ∷ map meaning (reading rest) ≡ Some instr ∷ map Some code = ap (map meaning) (sym (reading_cons opcode behind)) ∙ means in
-    let first : meaning (piece_of opcode behind) ≡ Some instr = cc in
+only_spelling (instr ∷ code) (opcode ∷ after) bytes minimal means =
+    let size = size_after opcode after in
+    let rest = drop size after in
+    let all = and_parts (is_minimal_piece (piece_of opcode after)) (list_all is_minimal_piece (reading rest)) (ap (list_all is_minimal_piece) (sym (reading_cons opcode after)) ∙ minimal) in
+    let pieces : meaning (piece_of opcode after) ∷ map meaning (reading rest) ≡ Some instr ∷ map Some code = ap (map meaning) (sym (reading_cons opcode after)) ∙ means in
+    let first : meaning (piece_of opcode after) ≡ Some instr = cc in
     let others : map meaning (reading rest) ≡ map Some code = cc in
-    let again = piece_again opcode behind instr bytes.1 all.0 first in
-    let more = only_spelling code rest (all_dropped size behind bytes.1) all.1 others in
-    ap (λ bs. opcode ∷ bs) (sym (take-append-drop size behind)) ∙ ap (λ bs. bs ++ rest) again ∙ ap (λ bs. spelling instr ++ bs) more
+    let again = piece_again opcode after instr bytes.1 all.0 first in
+    let more = only_spelling code rest (all_dropped size after bytes.1) all.1 others in
+    ap (λ bs. opcode ∷ bs) (sym (take-append-drop size after)) ∙ ap (λ bs. bs ++ rest) again ∙ ap (λ bs. spelling instr ++ bs) more

@@ -1,5 +1,6 @@
 -- Reading and spelling stand for one another.
 use Rattle.std.proofs.Common.{◌≡◌, ℕ, ◌+◌, ◌-◌, ◌/◌, ◌%◌, ◌≤◌, ◌<◌, Bool, true, false, ◌&&◌, ◌||◌, leb, ltb, eqb, cond, List, [], ◌∷◌, ◌++◌, length, take, drop, map, refl, sym, ap, ◌∙◌, arith, Some, length-append, append_assoc, append-nil, ◌⊎◌, inl, inr}
+use Rattle.cash_base.specs.Push.{push_prefix}
 use Rattle.std.proofs.Math.Seq.{drop-nil, drop-append_seam, take-append_seam}
 use Rattle.std.proofs.lemmas.List.{take-append-le, drop-append-le, length-drop}
 use Rattle.std.proofs.lemmas.Bool.{le-leb, and_parts, cond-true, and_from}
@@ -7,8 +8,8 @@ use Rattle.std.proofs.lemmas.Bool.Decides.{nat_tests}
 use Rattle.std.specs.List.{list_all}
 use Rattle.script_codec.specs.declared.instr.Instr.{Instr}
 use Rattle.script_codec.specs.declared.instr.Instr.TheVariants.{Push, Do}
-use Rattle.script_codec.specs.Spelling.{is_instruction, are_instructions, short_push, push_prefix, minimal_push, spelling, spellings}
-use Rattle.script_codec.specs.Reading.{Raw, Whole, little_endian, length_size, pushed_size, piece_of, size_behind, size_of, reading, first_byte, instruction, is_minimal, meaning, is_minimal_piece, bytes_in_script, spelled, push}
+use Rattle.script_codec.specs.Spelling.{is_instruction, are_instructions, short_push, minimal_push, spelling, spellings}
+use Rattle.script_codec.specs.Reading.{Raw, Whole, little_endian, length_size, pushed_size, piece_of, size_after, size_of, reading, first_byte, instruction, is_minimal, meaning, is_minimal_piece, bytes_in_script, spelled, push}
 use Rattle.script_codec.proofs.Seams.{reading_cons, reading_nil}
 
 -- ---- an instruction in front of other bytes
@@ -16,23 +17,23 @@ use Rattle.script_codec.proofs.Seams.{reading_cons, reading_nil}
 abbrev pub raw_of : ℕ → List ℕ → Raw
 raw_of opcode pushed = record { opcode = opcode; pushed = pushed }
 
--- an opcode with all the bytes that belong to it is read as it stands, and what follows is read behind it
-whole_read : (opcode : ℕ) (part rest : List ℕ) → length_size opcode ≤ length part → size_behind opcode part ≡ length part → reading (opcode ∷ (part ++ rest)) ≡ Whole (raw_of opcode (drop (length_size opcode) part)) ∷ reading rest
+-- an opcode with all the bytes that belong to it is read as it stands, and what follows is read after it
+whole_read : (opcode : ℕ) (part rest : List ℕ) → length_size opcode ≤ length part → size_after opcode part ≡ length part → reading (opcode ∷ (part ++ rest)) ≡ Whole (raw_of opcode (drop (length_size opcode) part)) ∷ reading rest
 whole_read opcode part rest front whole =
     let start = length_size opcode in
     let count : pushed_size opcode (part ++ rest) ≡ pushed_size opcode part = ap (λ bytes. cond (leb opcode 0x4b) opcode (cond (leb opcode 0x4e) (little_endian bytes) 0)) (take-append-le start part rest front) in
-    let size : size_behind opcode (part ++ rest) ≡ length part = ap (λ n. start + n) count ∙ whole in
-    let fits : leb (size_behind opcode (part ++ rest)) (length (part ++ rest)) ≡ true = le-leb _ _ (simp length-append (omega (arith, size))) in
+    let size : size_after opcode (part ++ rest) ≡ length part = ap (λ n. start + n) count ∙ whole in
+    let fits : leb (size_after opcode (part ++ rest)) (length (part ++ rest)) ≡ true = le-leb _ _ (simp length-append (omega (arith, size))) in
     let left : pushed_size opcode (part ++ rest) ≡ length (drop start part) = simp length-drop (omega (arith, count, whole)) in
     let pushed : take (pushed_size opcode (part ++ rest)) (drop start (part ++ rest)) ≡ drop start part =
     ap (λ n. take n (drop start (part ++ rest))) left ∙ ap (take (length (drop start part))) (drop-append-le start part rest front) ∙ take-append_seam (drop start part) rest in
-    let behind : drop (size_behind opcode (part ++ rest)) (part ++ rest) ≡ rest = ap (λ n. drop n (part ++ rest)) size ∙ drop-append_seam part rest in
+    let after : drop (size_after opcode (part ++ rest)) (part ++ rest) ≡ rest = ap (λ n. drop n (part ++ rest)) size ∙ drop-append_seam part rest in
     reading_cons opcode (part ++ rest)
-    ∙ ap (λ bytes. piece_of opcode (part ++ rest) ∷ reading bytes) behind
+    ∙ ap (λ bytes. piece_of opcode (part ++ rest) ∷ reading bytes) after
     ∙ ap (λ piece. piece ∷ reading rest) (cond-true _ _ _ fits)
     ∙ ap (λ bytes. Whole (raw_of opcode bytes) ∷ reading rest) pushed
 
--- an opcode that has no bytes behind it
+-- an opcode that has no bytes after it
 alone_read : (opcode : ℕ) (rest : List ℕ) → length_size opcode ≡ 0 → pushed_size opcode [] ≡ 0 → reading (opcode ∷ rest) ≡ Whole (raw_of opcode []) ∷ reading rest
 alone_read opcode rest none empty = whole_read opcode [] rest (omega (arith, none)) (omega (arith, none, empty)) ∙ ap (λ bytes. Whole (raw_of opcode bytes) ∷ reading rest) (drop-nil (length_size opcode))
 
@@ -182,7 +183,7 @@ instr_size (Do opcode) is =
 
 -- ---- the laws of what was encoded
 
--- code in front of other bytes is read as its instructions, and what follows behind them
+-- code in front of other bytes is read as its instructions, and what follows after them
 pub code_read : (code : List Instr) (rest : List ℕ) → are_instructions code ≡ true → reading (spellings code ++ rest) ≡ map (λ instr. Whole (spelled instr)) code ++ reading rest
 code_read [] rest are = refl
 code_read (instr ∷ code) rest are =

@@ -1,9 +1,10 @@
 -- How large the numbers in a script are, and how long its pushes.
 use Rattle.std.proofs.Common.{ℕ, ◌+◌, ◌/◌, ◌%◌, ◌^◌, ◌<◌, ◌≤◌, Bool, true, false, cond, List, [], ◌∷◌, length, arith, lit<}
+use Rattle.cash_base.specs.Push.{push_prefix}
 use Rattle.std.specs.Prelude.{nat_le, ◌==◌, ◌&&◌}
 use Rattle.std.proofs.Math.Nat.{pow-le-pow_right}
 use Rattle.std.proofs.lemmas.List.{length-append}
-use Rattle.script_codec.specs.Spelling.{minimal_push, push_prefix}
+use Rattle.script_codec.specs.Spelling.{minimal_push}
 
 -- a number of three bytes
 pub below_three : (m k : ℕ) → k ≤ 3 → m < 256 ^ k → m < 2 ^ 24

@@ -35,7 +35,7 @@ abbrev pub weight : ℕ → ℕ
 weight opcode = if nat_lt 0x60 opcode then 1 else 0
 
 -- the opcodes above 60 up to the end or the first push that is cut off, and the keys of each opcode that takes keys and
--- stands directly behind their number
+-- stands directly after their number
 abbrev pub counted_in : List Piece → ℕ
 counted_in [] = 0
 counted_in (CutOff ∷ more) = 0

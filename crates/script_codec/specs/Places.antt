@@ -2,14 +2,14 @@
 use Rattle.std.specs.Prelude.{◌≡◌, ℕ, ◌+◌, ◌<◌, ◌≤◌, nat_le, if◌then◌else◌, List, [], ◌∷◌, length, drop, slice_range, Option, Some, None, Result, Ok, Err}
 use Rattle.script_codec.specs.declared.reading.RawInstr.{RawInstr}
 use Rattle.script_codec.specs.declared.reading.CodecFault.{CodecFault}
-use Rattle.script_codec.specs.Reading.{Raw, Whole, CutOff, length_size, size_behind, size_of, reading}
+use Rattle.script_codec.specs.Reading.{Raw, Whole, CutOff, length_size, size_after, size_of, reading}
 
--- what an instruction at a place is, and the place behind it; the bytes that it pushes end where it ends
+-- what an instruction at a place is, and the place after it; the bytes that it pushes end where it ends
 abbrev pub placed : ℕ → List ℕ → Result (Option (RawInstr × ℕ)) CodecFault
 placed at [] = Ok None
-placed at (opcode ∷ behind) =
-    let end = at + 1 + size_behind opcode behind in
-    if nat_le (size_behind opcode behind) (length behind)
+placed at (opcode ∷ after) =
+    let end = at + 1 + size_after opcode after in
+    if nat_le (size_after opcode after) (length after)
     then Ok (Some (record { opcode = opcode; from = at + 1 + length_size opcode; to = end }, end))
     else Err (record { at = at })
 

@@ -11,20 +11,20 @@ abbrev pub little_endian : List ℕ → ℕ
 little_endian [] = 0
 little_endian (b ∷ bs) = b + 256 * little_endian bs
 
--- how many bytes of a length stand behind an opcode: 1 behind PUSHDATA1, 2 behind PUSHDATA2, 4 behind PUSHDATA4
+-- how many bytes of a length stand after an opcode: 1 after PUSHDATA1, 2 after PUSHDATA2, 4 after PUSHDATA4
 abbrev pub length_size : ℕ → ℕ
 length_size opcode = if opcode == 0x4c then 1 else (if opcode == 0x4d then 2 else (if opcode == 0x4e then 4 else 0))
 
 -- how many bytes of the script an opcode in front of these bytes pushes: up to 4b as many as it says (OP_0 none),
--- behind a PUSHDATA as many as the length says, and otherwise none
+-- after a PUSHDATA as many as the length says, and otherwise none
 abbrev pub pushed_size : ℕ → List ℕ → ℕ
-pushed_size opcode behind =
+pushed_size opcode after =
     if nat_le opcode 0x4b then opcode
-    else (if nat_le opcode 0x4e then little_endian (take (length_size opcode) behind) else 0)
+    else (if nat_le opcode 0x4e then little_endian (take (length_size opcode) after) else 0)
 
--- how many bytes behind its opcode belong to an instruction
-abbrev pub size_behind : ℕ → List ℕ → ℕ
-size_behind opcode behind = length_size opcode + pushed_size opcode behind
+-- how many bytes after its opcode belong to an instruction
+abbrev pub size_after : ℕ → List ℕ → ℕ
+size_after opcode after = length_size opcode + pushed_size opcode after
 
 -- an instruction as it stands in a script: its opcode, and the bytes of the script that it pushes
 pub record Raw : Type 0 where
@@ -41,23 +41,23 @@ pub data Piece : Type 0 where
   CutOff : Piece
 
 abbrev pub piece_of : ℕ → List ℕ → Piece
-piece_of opcode behind =
-    if nat_le (size_behind opcode behind) (length behind)
-    then Whole (record { opcode = opcode; pushed = take (pushed_size opcode behind) (drop (length_size opcode) behind) })
+piece_of opcode after =
+    if nat_le (size_after opcode after) (length after)
+    then Whole (record { opcode = opcode; pushed = take (pushed_size opcode after) (drop (length_size opcode) after) })
     else CutOff
 
 -- ---- the bytes of a script
 
--- the instructions behind so many bytes that belong to the one before; a push that is cut off takes more bytes than are
+-- the instructions after so many bytes that belong to the one before; a push that is cut off takes more bytes than are
 -- left, and so is the last
-unfoldable pub reading_behind : ℕ → List ℕ → List Piece
-reading_behind left [] = []
-reading_behind (suc left) (byte ∷ bytes) = reading_behind left bytes
-reading_behind zero (opcode ∷ behind) = piece_of opcode behind ∷ reading_behind (size_behind opcode behind) behind
+unfoldable pub reading_after : ℕ → List ℕ → List Piece
+reading_after left [] = []
+reading_after (suc left) (byte ∷ bytes) = reading_after left bytes
+reading_after zero (opcode ∷ after) = piece_of opcode after ∷ reading_after (size_after opcode after) after
 
--- the instructions of a script, one behind the other, up to its end or the first push that is cut off
+-- the instructions of a script, one after the other, up to its end or the first push that is cut off
 abbrev pub reading : List ℕ → List Piece
-reading script = reading_behind 0 script
+reading script = reading_after 0 script
 
 -- ---- what an instruction of a script stands for
 

@@ -1,6 +1,7 @@
 -- Instructions as bytes, each in its minimal spelling, as the Bitcoin Cash specification has it.
-use Rattle.std.specs.Prelude.{ℕ, ◌+◌, ◌/◌, ◌%◌, Bool, true, ◌==◌, ◌&&◌, nat_lt, nat_le, if◌then◌else◌, List, [], ◌∷◌, ◌++◌, length}
+use Rattle.std.specs.Prelude.{ℕ, ◌+◌, Bool, true, ◌==◌, ◌&&◌, nat_lt, nat_le, if◌then◌else◌, List, [], ◌∷◌, ◌++◌, length}
 use Rattle.std.specs.List.{list_all, flat_map}
+use Rattle.cash_base.specs.Push.{push_prefix}
 use Rattle.script_codec.specs.declared.instr.Instr.{Instr}
 use Rattle.script_codec.specs.declared.instr.Instr.TheVariants.{Push, Do}
 
@@ -18,12 +19,6 @@ abbrev pub short_push : ℕ → List ℕ
 short_push byte =
     if nat_le 1 byte && nat_le byte 16 then (0x50 + byte) ∷ []
     else (if byte == 0x81 then 0x4f ∷ [] else 1 ∷ byte ∷ [])
-
--- what stands before the bytes of a push: its length, behind PUSHDATA1 above 75 and behind PUSHDATA2 above 255
-abbrev pub push_prefix : ℕ → List ℕ
-push_prefix n =
-    if nat_le n 75 then n ∷ []
-    else (if nat_le n 255 then 0x4c ∷ n ∷ [] else 0x4d ∷ (n % 256) ∷ (n / 256) ∷ [])
 
 -- the minimal push of an element
 abbrev pub minimal_push : List ℕ → List ℕ

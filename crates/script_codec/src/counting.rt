@@ -15,7 +15,7 @@ use cash_base::read_number;
 const MOST_KEYS: i64 = 20;
 
 /// The number of opcodes above 60 (hexadecimal) in a script of at most 10,000 bytes, up to its end or its first push that is
-/// cut off, and for each CHECKMULTISIG and CHECKMULTISIGVERIFY directly behind a minimal push of a number from 0 to 20 that
+/// cut off, and for each CHECKMULTISIG and CHECKMULTISIGVERIFY directly after a minimal push of a number from 0 to 20 that
 /// number.
 ///
 /// It takes no memory. The count is this project's own; the limit of operations in a script of the Bitcoin Cash

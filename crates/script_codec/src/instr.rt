@@ -32,7 +32,7 @@ impl Opcode {
     pub const CHECKMULTISIGVERIFY: Opcode = Opcode(0xaf);
 }
 
-/// An instruction of a script. A push stands for the minimal spelling of its element.
+/// What an instruction of a script does: the push of an element, however it is spelled there, or an opcode that is no push.
 #[derive(Drop)]
 pub enum Instr {
     Push(Element),

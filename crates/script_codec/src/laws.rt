@@ -5,7 +5,7 @@ ghost use Rattle.std.specs.List.{list_all};
 ghost use Rattle.cash_base.specs.Number.{IsBytes};
 ghost use Rattle.script_codec.specs.declared.instr.Instr.{Instr};
 ghost use Rattle.script_codec.specs.Spelling.{is_instruction, are_instructions, spelling, spellings};
-ghost use Rattle.script_codec.specs.Reading.{reading, piece_of, size_behind, size_of, Whole, spelled, instruction, is_minimal, meaning, is_minimal_piece};
+ghost use Rattle.script_codec.specs.Reading.{reading, piece_of, size_after, size_of, Whole, spelled, instruction, is_minimal, meaning, is_minimal_piece};
 
 /// Reading what was encoded gives the same instructions.
 pub fn reading_of_encoded()
@@ -25,15 +25,15 @@ pub fn no_other_spelling()
         → IsTrue (list_all is_minimal_piece (reading script)) → map meaning (reading script) ≡ map Some code → script ≡ spellings code }
 {}
 
-/// A reading is the instruction at the front of a script, and the reading of what stands behind that.
+/// A reading is the instruction at the front of a script, and the reading of what stands after that.
 pub fn reading_in_turn()
     ensures end { reading [] ≡ [] }
-    ensures front { (opcode : ℕ) (behind : List ℕ)
-        → reading (opcode ∷ behind) ≡ piece_of opcode behind ∷ reading (drop (size_behind opcode behind) behind) }
+    ensures front { (opcode : ℕ) (after : List ℕ)
+        → reading (opcode ∷ after) ≡ piece_of opcode after ∷ reading (drop (size_after opcode after) after) }
 {}
 
 /// Code in front of other bytes is read as its instructions, and then those bytes are read.
-pub fn reading_behind_encoded()
+pub fn reading_after_encoded()
     ensures { (code : List Instr) (rest : List ℕ) → IsTrue (are_instructions code)
         → reading (spellings code ++ rest) ≡ map (λ instr. Whole (spelled instr)) code ++ reading rest }
 {}

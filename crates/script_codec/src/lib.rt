@@ -13,6 +13,3 @@ pub use instr::{Instr, Opcode};
 pub use reading::{CodecFault, RawInstr, next_instr};
 pub use spans::{Mark, Marked, Spanned};
 pub use spelling::encode;
-
-#[cfg(test)]
-mod tests;

@@ -1,18 +1,21 @@
 //! The instructions that the bytes of a script spell.
 
 ghost use Rattle.std.specs.Prelude.{◌≡◌, ◌≤◌, ◌<◌, ◌^◌, ◌+◌, length, slice_range};
+ghost use Rattle.cash_base.specs.Push.{push_prefix};
 ghost use Rattle.script_codec.specs.Reading;
 ghost use Rattle.script_codec.specs.Reading.{first_byte, instruction};
-ghost use Rattle.script_codec.specs.Spelling.{minimal_push, push_prefix};
+ghost use Rattle.script_codec.specs.Spelling.{minimal_push};
 ghost use Rattle.script_codec.specs.Places.{instruction_at, placed, ReadsAs, LiesIn, raw_in};
 
 use crate::instr::{Instr, Opcode};
 use cash_base::element::copy_of;
+use std::error::Error;
+use std::fmt;
 
 /// An instruction as it stands in a script: its opcode, and the places `from` up to but not including `to` of the bytes
 /// of the script that it pushes.
 ///
-/// `to` is always the place behind the instruction. Where it pushes none of the script's bytes, as OP_0, OP_1NEGATE,
+/// `to` is always the place after the instruction. Where it pushes none of the script's bytes, as OP_0, OP_1NEGATE,
 /// OP_1 to OP_16 and every opcode that is no push, `from` is that place too. The limits of its methods hold where it
 /// is what `next_instr` answers for the script.
 #[derive(Clone, Copy, Debug, PartialEq, Eq)]
@@ -28,10 +31,19 @@ pub struct CodecFault {
     pub at: u32,
 }
 
-/// The instruction at a place of a script, and the place behind it.
+impl fmt::Display for CodecFault {
+    fn fmt<W: fmt::Write>(&self, f: &mut fmt::Formatter<W>) -> fmt::Result {
+        let at = self.at;
+        write!(f, "the push at {at} is cut off")
+    }
+}
+
+impl Error for CodecFault {}
+
+/// The instruction at a place of a script, and the place after it.
 ///
 /// It is `None` exactly at the end, and a fault exactly where a push's length or bytes are cut off. Every byte begins
-/// an instruction: 00 to 4e push bytes of the script, behind their length in little-endian from 4c on; 4f and 51 to 60
+/// an instruction: 00 to 4e push bytes of the script, after their length in little-endian from 4c on; 4f and 51 to 60
 /// push an element of one byte; any other pushes nothing. Pushes of over 520 bytes, which no element holds, are read
 /// like any other. It takes no memory.
 ///
@@ -51,15 +63,15 @@ fn first_instr(rest: &[u8], at: usize) -> Result<Option<(RawInstr, usize)>, Code
     requires { at + length rest.now < 2 ^ 31 }
     ensures { result ≡ placed at rest.now }
 {
-    let [opcode, behind @ ..] = rest else {
+    let [opcode, after @ ..] = rest else {
         return Ok(None);
     };
     let length = length_size(*opcode);
-    if length > behind.len() {
+    if length > after.len() {
         return Err(CodecFault { at: at as u32 });
     }
-    let pushed = pushed_size(*opcode, behind);
-    if pushed > behind.len() - length {
+    let pushed = pushed_size(*opcode, after);
+    if pushed > after.len() - length {
         return Err(CodecFault { at: at as u32 });
     }
     let from = at + 1 + length;
@@ -72,7 +84,7 @@ fn first_instr(rest: &[u8], at: usize) -> Result<Option<(RawInstr, usize)>, Code
     Ok(Some((instr, to)))
 }
 
-/// How many bytes of a length stand behind an opcode.
+/// How many bytes of a length stand after an opcode.
 fn length_size(opcode: u8) -> usize
     ensures value { result ≡ Reading.length_size opcode }
     ensures bound { result ≤ 4 }
@@ -86,13 +98,13 @@ fn length_size(opcode: u8) -> usize
 }
 
 /// How many bytes of the script an opcode in front of these bytes pushes.
-fn pushed_size(opcode: u8, behind: &[u8]) -> usize
-    requires { Reading.length_size opcode ≤ length behind.now }
-    ensures { result ≡ Reading.pushed_size opcode behind.now }
+fn pushed_size(opcode: u8, after: &[u8]) -> usize
+    requires { Reading.length_size opcode ≤ length after.now }
+    ensures { result ≡ Reading.pushed_size opcode after.now }
 {
     match opcode {
         0..=0x4b => usize::from(opcode),
-        0x4c..=0x4e => little_endian(&behind[..length_size(opcode)]),
+        0x4c..=0x4e => little_endian(&after[..length_size(opcode)]),
         _ => 0,
     }
 }

@@ -1,8 +1,9 @@
 //! The minimal spelling of instructions.
 
 ghost use Rattle.std.specs.Prelude.{◌≡◌, ◌≤◌, ◌++◌, length, IsTrue, IfOk, OnOk};
+ghost use Rattle.cash_base.specs.Push.{push_prefix};
 ghost use Rattle.script_codec.specs.Spelling.{are_instructions, minimal_push, spelling, spellings};
-ghost use Rattle.script_codec.specs.Spelling.{short_push, push_prefix};
+ghost use Rattle.script_codec.specs.Spelling.{short_push};
 
 use crate::instr::Instr;
 use cash_base::Memory;

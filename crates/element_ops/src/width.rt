@@ -1,12 +1,12 @@
 //! Elements as whole numbers of any width: their shortest form, and that of so many bytes.
 
-ghost use Rattle.std.specs.Prelude.{◌≡◌, ◌≤◌, length, ℕ, List};
-ghost use Rattle.cash_base.specs.Number.{IsBytes};
-ghost use Rattle.cash_base.specs.Width;
-ghost use Rattle.cash_base.specs.Width.{without_sign, trimmed, IsShortestOf, HasWidth};
+ghost use Rattle.std.specs.Prelude.{◌≡◌, ◌≤◌, length};
+ghost use Rattle.element_ops.specs.Width;
+ghost use Rattle.element_ops.specs.Width.{without_sign, trimmed};
 
-use crate::element::{Element, copy_of};
-use crate::number::{has_sign, signed};
+use cash_base::Element;
+use cash_base::element::copy_of;
+use cash_base::number::{has_sign, with_sign};
 
 /// The shortest element with the same sign and magnitude as at most 520 bytes have, and the empty one where the magnitude is
 /// zero.
@@ -18,7 +18,7 @@ pub fn shortest(e: &[u8]) -> Element
     ensures shorter { length result.items ≤ length e.now }
 {
     let digits = unsigned_copy(e);
-    signed(copy_of(significant(digits.as_slice())), has_sign(e))
+    with_sign(copy_of(significant(digits.as_slice())), has_sign(e))
 }
 
 /// The element of this width, in bytes, with the same sign and magnitude; a magnitude of zero has no sign. The width is at most
@@ -35,7 +35,7 @@ pub fn of_width(e: &[u8], width: usize) -> Element
     let negative = has_sign(shortest.as_slice());
     let mut digits = unsigned_copy(shortest.as_slice());
     pad(&mut digits, width);
-    signed(digits, negative)
+    with_sign(digits, negative)
 }
 
 /// The bytes without the highest bit of the last.
@@ -77,14 +77,3 @@ fn pad(digits: &mut Element, width: usize)
         digits.push(0);
     }
 }
-
-/// The shortest form has the same sign and magnitude, and is minimal.
-pub fn shortest_keeps()
-    ensures { (e : List ℕ) → IsBytes e → IsShortestOf e (Width.shortest e) }
-{}
-
-/// The form of so many bytes has them, and the same sign and magnitude.
-pub fn of_width_keeps()
-    ensures { (width : ℕ) (e : List ℕ) → IsBytes e → length (Width.shortest e) ≤ width
-        → HasWidth width (Width.shortest e) (Width.of_width width e) }
-{}

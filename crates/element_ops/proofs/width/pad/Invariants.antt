@@ -1,5 +1,5 @@
 use Rattle.std.proofs.Common.{◌≡◌, ◌-◌, ◌++◌, length, replicate}
-use Rattle.cash_base.proofs.width.pad.Given as goal
+use Rattle.element_ops.proofs.width.pad.Given as goal
 
 -- the digits and the zeros so far
 abbrev pub invariant-loop : goal.invariant-loop

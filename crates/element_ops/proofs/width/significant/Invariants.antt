@@ -1,6 +1,6 @@
 use Rattle.std.proofs.Common.{◌≡◌, ◌≤◌, length}
-use Rattle.cash_base.specs.Width.{trimmed}
-use Rattle.cash_base.proofs.width.significant.Given as goal
+use Rattle.element_ops.specs.Width.{trimmed}
+use Rattle.element_ops.proofs.width.significant.Given as goal
 
 -- what is left is trimmed to what the whole is
 abbrev pub invariant-rest : goal.invariant-rest
