@@ -33,7 +33,7 @@ impl Model for SourceRoom {
     ghost invariant = { λ room. 1000 ≤ vec_capacity room.stack };
 }
 
-/// The elements of the parameters, which contracts see as one list: the constructor's, and behind them the
+/// The elements of the parameters, which contracts see as one list: the constructor's, and after them the
 /// function's.
 #[derive(Drop)]
 struct Slots<'a> {

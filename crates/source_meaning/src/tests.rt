@@ -209,23 +209,6 @@ fn a_literal_on_one_side(rt: HostRuntime) -> Result<(), Fail> {
     Ok(())
 }
 
-// In `(x == y) == (y == x)` the first failure counts.
-#[test]
-fn the_left_side_comes_first(rt: HostRuntime) -> Result<(), Fail> {
-    let alloc = rt.alloc();
-    let mut room = SourceRoom::new(alloc)?;
-    let left_span = Span { from: 50, to: 58 };
-    let left = comparison(alloc, name(0, LEFT), name(1, RIGHT), left_span)?;
-    let right_span = Span { from: 62, to: 70 };
-    let right = comparison(alloc, name(1, LEFT), name(0, RIGHT), right_span)?;
-    let value = comparison(alloc, left, right, Span { from: 50, to: 70 })?;
-    assert_eq!(rt;
-        outcome(alloc, &mut room, value, b"\0", b"\x05")?,
-        not_a_number(left_span)
-    );
-    Ok(())
-}
-
 // A comparison whose left side is one, and so on: the deepest expression of 1,000 nodes at most.
 fn nest(alloc: Global) -> Result<Expr<Slot, Ty>, AllocError>
     ensures { IfOk result (IsRunnable 2) }
@@ -237,10 +220,20 @@ fn nest(alloc: Global) -> Result<Expr<Slot, Ty>, AllocError>
     Ok(value)
 }
 
+// In `(x == y) == (y == x)` the first failure counts.
 #[test]
-fn a_deep_expression(rt: HostRuntime) -> Result<(), Fail> {
+fn comparisons_of_comparisons(rt: HostRuntime) -> Result<(), Fail> {
     let alloc = rt.alloc();
     let mut room = SourceRoom::new(alloc)?;
+    let left_span = Span { from: 50, to: 58 };
+    let left = comparison(alloc, name(0, LEFT), name(1, RIGHT), left_span)?;
+    let right_span = Span { from: 62, to: 70 };
+    let right = comparison(alloc, name(1, LEFT), name(0, RIGHT), right_span)?;
+    let value = comparison(alloc, left, right, Span { from: 50, to: 70 })?;
+    assert_eq!(rt;
+        outcome(alloc, &mut room, value, b"\0", b"\x05")?,
+        not_a_number(left_span)
+    );
     assert_eq!(rt;
         outcome(alloc, &mut room, nest(alloc)?, b"", b"")?,
         SourceOutcome::Met

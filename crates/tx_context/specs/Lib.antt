@@ -1,8 +1,7 @@
+pub mod Bytes
 pub mod Transaction
 pub mod Given
 pub mod Limits
-pub mod Refusal
-pub mod Frame
 pub mod Lookup
 pub mod Table
 pub mod Verdict

@@ -1,6 +1,6 @@
 -- A transaction that is spent, as numbers and lists of bytes. `B` is what stands for a locking bytecode: the bytes, or
 -- in a frame nothing where it is the one of the spend.
-use Rattle.std.specs.Prelude.{ℕ, List, Option}
+use Rattle.std.specs.Prelude.{ℕ, List, Option, replicate}
 
 -- an input, with the output that it spends
 pub record InputParts (B : Type 0) : Type 0 where
@@ -37,6 +37,10 @@ input_parts hash index sequence value locking unlocking = record {
   locking = locking;
   unlocking = unlocking;
 }
+
+-- an ordinary input: it spends the first output of a transaction whose hash is all zeros, with sequence number 0
+abbrev pub plain_input : {B : Type 0} → ℕ → B → List ℕ → InputParts B
+plain_input value locking unlocking = input_parts (replicate 32 0) 0 0 value locking unlocking
 
 -- a transaction of these parts
 abbrev pub transaction : {B : Type 0} → ℕ → ℕ → List (InputParts B) → List (OutputParts B) → ℕ → Transaction B

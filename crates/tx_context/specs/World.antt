@@ -1,8 +1,10 @@
 -- The world of a spend.
 use Rattle.std.specs.Prelude.{ℕ, Bool, ◌==◌, List, map, if◌then◌else◌, unwrap_or}
 use Rattle.std.specs.List.{enumerate_from}
+use Rattle.cash_base.specs.Number.{IsBytes}
 use Rattle.tx_context.specs.Transaction.{InputParts, OutputParts, Transaction, Locking}
-use Rattle.tx_context.specs.Table.{Row}
+use Rattle.tx_context.specs.Limits.{IsContext}
+use Rattle.tx_context.specs.Table.{Row, AreVerdicts}
 
 -- What a run of a contract's source, and of its script, can ask about: the transaction, the verdicts on signatures, and
 -- the redeem script, which is the active bytecode.
@@ -10,6 +12,13 @@ pub record World : Type 0 where
   pub context : Transaction (List ℕ)
   pub verdicts : List Row
   pub redeem : List ℕ
+
+-- What holds of every world: the transaction is a context within its limits, the verdicts are a table, and the redeem
+-- script is bytes, however many.
+pub record IsWorld (world : World) : Type 0 where
+  pub context : IsContext world.context
+  pub verdicts : AreVerdicts world.verdicts
+  pub redeem : IsBytes world.redeem
 
 -- An input of a context: its locking bytecode is that of the spend where none was given. The active input has both
 -- bytecodes of the spend, whatever was given.

@@ -1,13 +1,14 @@
 //! Contexts: a transaction with every bytecode, in which one input is spent.
 
-ghost use Rattle.std.specs.Prelude.{◌≡◌, ◌≤◌, Bool, length, map, IfOk, unwrap_or, if◌then◌else◌};
+ghost use Rattle.std.specs.Prelude.{◌≡◌, ◌≤◌, ◌<◌, Bool, length, map, slice_get, IfOk, Some, unwrap_or, if◌then◌else◌};
 ghost use Rattle.std.specs.List.{enumerate_from};
 ghost use Rattle.tx_context.specs.Transaction.{transaction};
 ghost use Rattle.tx_context.specs.Limits.{IsContext, IsFrame};
 ghost use Rattle.tx_context.specs.Given.{given_bytes};
 ghost use Rattle.tx_context.specs.World.{filled_context, filled_input, filled_inputs, filled_output};
 
-use crate::frame::Frame;
+use crate::frame::{Frame, LONGEST_BYTECODE};
+use crate::laws::are_below_256;
 use crate::part::{Bytecode, ContextInput, ContextOutput, Input, Output};
 use cash_base::Memory;
 use std::alloc::Global;
@@ -70,11 +71,23 @@ impl Context {
     }
 
     /// The index of the active input, which is below the number of inputs.
+    #[tactic(auto, using(crate::proofs::Amounts::active_in_context))]
     pub fn active(&self) -> u32
         ensures value { result ≡ self.now.active }
+        ensures within { result < length self.now.inputs }
         ensures context { IsContext self.now }
     {
         self.active
+    }
+
+    /// The input that is spent, whose bytecodes have at most 20,000 bytes each.
+    #[tactic(auto, using(crate::proofs::Amounts::short_locking, crate::proofs::Amounts::short_unlocking))]
+    pub fn spent_input(&self) -> &ContextInput
+        ensures value { slice_get self.now.inputs self.now.active ≡ Some result.now }
+        ensures locking { length result.now.locking ≤ LONGEST_BYTECODE }
+        ensures unlocking { length result.now.unlocking ≤ LONGEST_BYTECODE }
+    {
+        &self.inputs()[self.active() as usize]
     }
 }
 
@@ -90,10 +103,14 @@ pub fn fill(
     locking: &[u8],
     unlocking: &[u8],
 ) -> Result<Context, Memory>
-    requires locking_length { length locking.now ≤ 20000 }
-    requires unlocking_length { length unlocking.now ≤ 20000 }
+    requires locking_length { length locking.now ≤ LONGEST_BYTECODE }
+    requires unlocking_length { length unlocking.now ≤ LONGEST_BYTECODE }
     ensures { IfOk result (λ context. context ≡ filled_context frame.now locking.now unlocking.now) }
 {
+    // laws
+    are_below_256(locking);
+    are_below_256(unlocking);
+
     let inputs = fill_inputs(alloc, frame.inputs(), frame.active(), locking, unlocking)?;
     let outputs = fill_outputs(alloc, frame.outputs(), locking)?;
     Ok(Context {

@@ -1,25 +1,31 @@
 //! Frames: a transaction in which the locking bytecode of the spend is left open.
 
-ghost use Rattle.std.specs.Prelude.{◌≡◌, false, ◌≤◌, ◌<◌, ◌+◌, ◌^◌, length, map, option_to_list, OnOk, IfOk, IfErr, IfSome, IfNone, IsTrue, vec_len};
+ghost use Rattle.std.specs.Prelude.{◌≡◌, ◌≤◌, ◌<◌, ◌+◌, ◌^◌, length, map, option_to_list, OnOk, IfOk, IfErr, IfSome, IfNone, IsTrue, vec_len};
 ghost use Rattle.std.specs.List.{position_from, list_any, list_all};
+ghost use Rattle.tx_context.specs.Bytes.{are_bytes};
 ghost use Rattle.tx_context.specs.Transaction.{transaction};
-ghost use Rattle.tx_context.specs.Limits.{IsFrame, is_numbered, is_great_value, is_long};
-ghost use Rattle.tx_context.specs.Frame.{checked_frame, count_check, value_check, bytecode_check, input_bytecodes, output_bytecodes};
+ghost use Rattle.tx_context.specs.Limits.{IsFrame, checked_frame, count_check, value_check, bytecode_check, bytecodes_of, is_great_value, is_long, is_typed_input, is_typed_output};
 ghost use Rattle.tx_context.specs.Given.{given_bytes};
 
+use crate::laws::are_below_256;
 use crate::part::{Bytecode, Input, Output};
 use std::marker::Model;
 use thiserror::Error;
 
-const GREATEST_VERSION: u32 = 2_147_483_647;
+/// The greatest version of a frame, 2^31 - 1.
+pub const GREATEST_VERSION: u32 = 2_147_483_647;
 
-const MOST_INPUTS: usize = 1000;
+/// A frame has at most so many inputs.
+pub const MOST_INPUTS: usize = 1000;
 
-const MOST_OUTPUTS: usize = 1000;
+/// A frame has at most so many outputs.
+pub const MOST_OUTPUTS: usize = 1000;
 
-const GREATEST_VALUE: u64 = 9_223_372_036_854_775_807;
+/// The greatest value of an input or an output, in satoshis, 2^63 - 1.
+pub const GREATEST_VALUE: u64 = 9_223_372_036_854_775_807;
 
-const LONGEST_BYTECODE: usize = 20_000;
+/// A bytecode of a frame, and so each script of a spend, has at most so many bytes.
+pub const LONGEST_BYTECODE: usize = 20_000;
 
 /// Why parts make no frame. An index counts the inputs and then the outputs, from 0.
 #[derive(Clone, Copy, Debug, PartialEq, Eq, Error)]
@@ -87,8 +93,8 @@ impl Frame {
         outputs: Vec<Output>,
         active: u32,
     ) -> Result<Frame, FrameFault>
-        requires inputs_count { vec_len inputs ≤ 2147483647 }
-        requires outputs_count { vec_len outputs ≤ 2147483647 }
+        requires inputs_count { vec_len inputs < 2 ^ 32 }
+        requires outputs_count { vec_len outputs < 2 ^ 32 }
         ensures ok { IfOk result (λ frame.
             checked_frame (transaction version locktime inputs.items outputs.items active) ≡ Ok frame) }
         ensures fault { IfErr result (λ fault.
@@ -142,8 +148,10 @@ impl Frame {
     }
 
     /// The index of the active input, which is below the number of inputs.
+    #[tactic(auto, using(crate::proofs::Amounts::active_in_frame))]
     pub fn active(&self) -> u32
         ensures value { result ≡ self.now.active }
+        ensures within { result < length self.now.inputs }
         ensures frame { IsFrame self.now }
     {
         self.active
@@ -152,12 +160,11 @@ impl Frame {
 
 // The tests of the version and of the numbers of inputs and outputs.
 fn check_counts(version: u32, inputs: &[Input], outputs: &[Output]) -> Result<(), FrameFault>
-    requires inputs_count { length inputs.now ≤ 2147483647 }
-    requires outputs_count { length outputs.now ≤ 2147483647 }
+    requires inputs_count { length inputs.now < 2 ^ 32 }
+    requires outputs_count { length outputs.now < 2 ^ 32 }
     ensures check { result ≡ count_check version inputs.now outputs.now }
-    ensures version { OnOk result (version < 2 ^ 31) }
-    ensures inputs { OnOk result (length inputs.now ≤ 1000) }
-    ensures outputs { OnOk result (length outputs.now ≤ 1000) }
+    ensures inputs { OnOk result (length inputs.now ≤ MOST_INPUTS) }
+    ensures outputs { OnOk result (length outputs.now ≤ MOST_OUTPUTS) }
 {
     if version > GREATEST_VERSION {
         return Err(FrameFault::Version);
@@ -179,14 +186,11 @@ fn check_counts(version: u32, inputs: &[Input], outputs: &[Output]) -> Result<()
 }
 
 // The test of each value.
-#[tactic(auto, using(crate::proofs::Places::place_ahead, crate::proofs::Places::place_behind))]
+#[tactic(auto, using(crate::proofs::Places::place_ahead, crate::proofs::Places::place_after))]
 fn check_values(inputs: &[Input], outputs: &[Output]) -> Result<(), FrameFault>
-    requires inputs_count { length inputs.now ≤ 1000 }
-    requires outputs_count { length outputs.now ≤ 1000 }
-    ensures check { result ≡ value_check inputs.now outputs.now }
-    ensures numbers { OnOk result (IsTrue (list_all is_numbered inputs.now)) }
-    ensures inputs { OnOk result (list_any (λ i. is_great_value i.value) inputs.now ≡ false) }
-    ensures outputs { OnOk result (list_any (λ o. is_great_value o.value) outputs.now ≡ false) }
+    requires inputs_count { length inputs.now ≤ MOST_INPUTS }
+    requires outputs_count { length outputs.now ≤ MOST_OUTPUTS }
+    ensures { result ≡ value_check inputs.now outputs.now }
 {
     if let Some(i) = great_input(inputs) {
         return Err(FrameFault::Value { index: i as u32 });
@@ -201,31 +205,20 @@ fn check_values(inputs: &[Input], outputs: &[Output]) -> Result<(), FrameFault>
 fn great_input(inputs: &[Input]) -> Option<usize>
     ensures place { result ≡ position_from is_great_value 0 (map (λ i. i.value) inputs.now) }
     ensures within { IfSome result (λ i. i < length inputs.now) }
-    ensures numbers { IfNone result (IsTrue (list_all is_numbered inputs.now)) }
-    ensures none { IfNone result (list_any (λ i. is_great_value i.value) inputs.now ≡ false) }
 {
     for (i, input) in inputs.iter().enumerate() {
-        if has_great_value(input) {
+        if input.value > GREATEST_VALUE {
             return Some(i);
         }
     }
     None
 }
 
-// Whether the value is too great.
-fn has_great_value(input: &Input) -> bool
-    ensures value { result ≡ is_great_value input.now.value }
-    ensures numbers { IsTrue (is_numbered input.now) }
-{
-    input.value > GREATEST_VALUE
-}
-
-// The first output whose value is too great, counted behind so many inputs.
+// The first output whose value is too great, counted after so many inputs.
 fn great_output(outputs: &[Output], inputs: usize) -> Option<usize>
-    requires { inputs + length outputs.now ≤ 2000 }
+    requires { inputs + length outputs.now ≤ MOST_INPUTS + MOST_OUTPUTS }
     ensures place { result ≡ position_from is_great_value inputs (map (λ o. o.value) outputs.now) }
     ensures within { IfSome result (λ i. i < inputs + length outputs.now) }
-    ensures none { IfNone result (list_any (λ o. is_great_value o.value) outputs.now ≡ false) }
 {
     for (i, output) in outputs.iter().enumerate() {
         if output.value > GREATEST_VALUE {
@@ -236,13 +229,13 @@ fn great_output(outputs: &[Output], inputs: usize) -> Option<usize>
 }
 
 // The test of each bytecode.
-#[tactic(auto, using(crate::proofs::Places::place_ahead, crate::proofs::Places::place_behind))]
+#[tactic(auto, using(crate::proofs::Places::place_ahead, crate::proofs::Places::place_after))]
 fn check_bytecodes(inputs: &[Input], outputs: &[Output]) -> Result<(), FrameFault>
-    requires inputs_count { length inputs.now ≤ 1000 }
-    requires outputs_count { length outputs.now ≤ 1000 }
-    ensures check { result ≡ bytecode_check inputs.now outputs.now }
-    ensures inputs { OnOk result (list_any (λ i. list_any is_long (input_bytecodes i)) inputs.now ≡ false) }
-    ensures outputs { OnOk result (list_any (λ o. list_any is_long (output_bytecodes o)) outputs.now ≡ false) }
+    requires inputs_count { length inputs.now ≤ MOST_INPUTS }
+    requires outputs_count { length outputs.now ≤ MOST_OUTPUTS }
+    ensures check { result ≡ bytecode_check option_to_list inputs.now outputs.now }
+    ensures typed_inputs { OnOk result (IsTrue (list_all (is_typed_input option_to_list) inputs.now)) }
+    ensures typed_outputs { OnOk result (IsTrue (list_all (is_typed_output option_to_list) outputs.now)) }
 {
     if let Some(i) = long_input(inputs) {
         return Err(FrameFault::BytecodeLength { index: i as u32 });
@@ -255,24 +248,37 @@ fn check_bytecodes(inputs: &[Input], outputs: &[Output]) -> Result<(), FrameFaul
 
 // The first input with a bytecode that is too long.
 fn long_input(inputs: &[Input]) -> Option<usize>
-    ensures place { result ≡ position_from (list_any is_long) 0 (map input_bytecodes inputs.now) }
+    ensures place { result ≡ position_from (list_any is_long) 0 (map (bytecodes_of option_to_list) inputs.now) }
     ensures within { IfSome result (λ i. i < length inputs.now) }
-    ensures none { IfNone result (list_any (λ i. list_any is_long (input_bytecodes i)) inputs.now ≡ false) }
+    ensures typed { IfNone result (IsTrue (list_all (is_typed_input option_to_list) inputs.now)) }
 {
     for (place, input) in inputs.iter().enumerate() {
-        if is_long_locking(&input.locking) || input.unlocking.len() > LONGEST_BYTECODE {
+        if has_long_bytecode(input) {
             return Some(place);
         }
     }
     None
 }
 
-// The first output with a bytecode that is too long, counted behind so many inputs.
+// Whether one of its bytecodes is too long.
+fn has_long_bytecode(input: &Input) -> bool
+    ensures value { result ≡ list_any is_long (bytecodes_of option_to_list input.now) }
+    ensures typed { IsTrue (is_typed_input option_to_list input.now) }
+{
+    // laws
+    are_below_256(&input.hash);
+    are_below_256(&input.unlocking);
+
+    is_long_locking(&input.locking) || input.unlocking.len() > LONGEST_BYTECODE
+}
+
+// The first output with a bytecode that is too long, counted after so many inputs.
 fn long_output(outputs: &[Output], inputs: usize) -> Option<usize>
-    requires { inputs + length outputs.now ≤ 2000 }
-    ensures place { result ≡ position_from (list_any is_long) inputs (map output_bytecodes outputs.now) }
+    requires { inputs + length outputs.now ≤ MOST_INPUTS + MOST_OUTPUTS }
+    ensures place { result ≡
+        position_from (list_any is_long) inputs (map (λ o. option_to_list o.locking) outputs.now) }
     ensures within { IfSome result (λ i. i < inputs + length outputs.now) }
-    ensures none { IfNone result (list_any (λ o. list_any is_long (output_bytecodes o)) outputs.now ≡ false) }
+    ensures typed { IfNone result (IsTrue (list_all (is_typed_output option_to_list) outputs.now)) }
 {
     for (place, output) in outputs.iter().enumerate() {
         if is_long_locking(&output.locking) {
@@ -284,10 +290,15 @@ fn long_output(outputs: &[Output], inputs: usize) -> Option<usize>
 
 // Whether the bytes are given and too many.
 fn is_long_locking(locking: &Bytecode) -> bool
-    ensures { result ≡ list_any is_long (option_to_list (given_bytes locking.now)) }
+    ensures value { result ≡ list_any is_long (option_to_list (given_bytes locking.now)) }
+    ensures typed { IsTrue (list_all are_bytes (option_to_list (given_bytes locking.now))) }
 {
     match locking {
-        Bytecode::Given(bytes) => bytes.len() > LONGEST_BYTECODE,
+        Bytecode::Given(bytes) => {
+            // a law
+            are_below_256(bytes);
+            bytes.len() > LONGEST_BYTECODE
+        }
         Bytecode::Own => false,
     }
 }

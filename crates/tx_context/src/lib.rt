@@ -3,6 +3,7 @@
 
 pub mod context;
 pub mod frame;
+pub mod laws;
 pub mod look_up;
 pub mod part;
 pub mod signature;
@@ -10,13 +11,11 @@ pub mod verdict;
 
 pub use cash_base::{Look0, LookAt, Memory};
 pub use context::{Context, fill};
-pub use frame::{Frame, FrameFault};
+pub use frame::{
+    Frame, FrameFault, GREATEST_VALUE, GREATEST_VERSION, LONGEST_BYTECODE, MOST_INPUTS,
+    MOST_OUTPUTS,
+};
 pub use look_up::{age_met, look_at, look0, time_met};
-pub use part::{Bytecode, ContextInput, ContextOutput, Input, Output};
+pub use part::{Bytecode, ContextInput, ContextOutput, Input, Output, plain_input};
 pub use signature::{check_many, check_one};
-pub use verdict::{Answer, Kind, TableFault, VerdictRow, Verdicts};
-
-#[cfg(test)]
-mod tests;
-#[cfg(test)]
-mod world_tests;
+pub use verdict::{Answer, Kind, MOST_ROWS, TableFault, VerdictRow, Verdicts};

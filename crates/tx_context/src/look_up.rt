@@ -1,14 +1,13 @@
 //! What a spend can be asked about its transaction, and its two locks in time.
 
 ghost use Rattle.std.specs.Prelude.{◌≡◌, ◌^◌, ◌<◌, false, Ok, Err, IfOk, IfErr};
-ghost use Rattle.element_ops.specs.Operand.{operand_number};
 ghost use Rattle.tx_context.specs.Limits.{is_great_value};
-ghost use Rattle.tx_context.specs.Lookup.{number_bytes, sized, context_value, item_at, value_at, indexed_value, active_sequence, is_no_lock, differs_in_kind, is_time_missed, time_verdict, has_bit, is_age_missed, age_verdict};
+ghost use Rattle.tx_context.specs.Lookup.{number_bytes, sized, context_value, item_at, value_at, indexed_value, active_sequence, is_no_lock, differs_in_kind, is_time_missed, time_outcome, has_bit, is_age_missed, age_outcome};
 
 use crate::context::Context;
 use crate::part::{ContextInput, ContextOutput};
 use cash_base::element::copy_of;
-use cash_base::{Cause, Element, Look0, LookAt, MAX_ELEMENT_LEN, read_number, write_number};
+use cash_base::{Cause, Element, Look0, LookAt, MAX_ELEMENT_LEN, operand, write_number};
 
 const LONGEST_LOCK: usize = 5;
 
@@ -19,18 +18,19 @@ const FIRST_TIME: u64 = 500_000_000;
 const FINAL_SEQUENCE: u32 = 0xffff_ffff;
 
 // Where this bit is set, an age doesn't count.
-const OFF_BIT: u64 = 1 << 31;
+const OFF_BIT: u32 = 31;
 
 // Where this bit is set, an age is a time, and otherwise a number of blocks.
-const TIME_BIT: u64 = 1 << 22;
+const TIME_BIT: u32 = 22;
 
-// An age is the number of the bits below this one.
+// An age is the number of the low 16 bits.
 const AGE_LIMIT: u64 = 1 << 16;
 
 /// What is asked of the whole transaction, where `active` is the active bytecode.
 ///
 /// `Oversize` comes exactly where the active bytecode is asked for and has more than 520 bytes. It takes no memory.
 /// Source: CHIP-2021-02, native introspection.
+#[tactic(auto, using(crate::proofs::Amounts::few_inputs, crate::proofs::Amounts::few_outputs))]
 pub fn look0(ctx: &Context, what: Look0, active: &[u8]) -> Result<Element, Cause>
     ensures value { IfOk result (λ e. context_value ctx.now what active.now ≡ Ok e.items) }
     ensures cause { IfErr result (λ cause. context_value ctx.now what active.now ≡ Err cause) }
@@ -106,12 +106,6 @@ fn element_at(ctx: &Context, what: LookAt, n: i64) -> Result<Element, Cause>
     }
 }
 
-fn operand(e: &[u8]) -> Result<i64, Cause>
-    ensures { result ≡ operand_number e.now }
-{
-    read_number(e).ok_or(Cause::NotANumber)
-}
-
 fn number_element(n: u64) -> Element
     requires { n < 2 ^ 63 }
     ensures { result.items ≡ number_bytes n }
@@ -136,7 +130,7 @@ fn sized_element(bytes: &[u8]) -> Result<Element, Cause>
     Ok(copy_of(bytes))
 }
 
-#[tactic(auto, using(crate::proofs::Amounts::amount_at))]
+#[tactic(auto, using(crate::proofs::Amounts::input_amount))]
 fn input_at(ctx: &Context, n: i64) -> Result<&ContextInput, Cause>
     ensures value { IfOk result (λ i. item_at n ctx.now.inputs ≡ Ok i.now) }
     ensures cause { IfErr result (λ cause. item_at n ctx.now.inputs ≡ Err cause) }
@@ -146,7 +140,7 @@ fn input_at(ctx: &Context, n: i64) -> Result<&ContextInput, Cause>
     Ok(input)
 }
 
-#[tactic(auto, using(crate::proofs::Amounts::amount_at))]
+#[tactic(auto, using(crate::proofs::Amounts::output_amount))]
 fn output_at(ctx: &Context, n: i64) -> Result<&ContextOutput, Cause>
     ensures value { IfOk result (λ o. item_at n ctx.now.outputs ≡ Ok o.now) }
     ensures cause { IfErr result (λ cause. item_at n ctx.now.outputs ≡ Err cause) }
@@ -177,7 +171,7 @@ fn item<T>(items: &[T], n: i64) -> Result<&T, Cause>
 /// input's sequence number is 4,294,967,295. It takes no memory.
 /// Source: BIP-65 and the Bitcoin Cash specification, OP_CHECKLOCKTIMEVERIFY.
 pub fn time_met(ctx: &Context, e: &[u8]) -> Result<(), Cause>
-    ensures { result ≡ time_verdict ctx.now e.now }
+    ensures { result ≡ time_outcome ctx.now e.now }
 {
     let n = operand(e)?;
     if is_no_lock_number(e, n) || is_before(ctx, n.unsigned_abs()) {
@@ -230,7 +224,7 @@ fn sequence(ctx: &Context) -> u32
 /// are less than those of the number. It takes no memory.
 /// Source: BIP-112, BIP-68 and the Bitcoin Cash specification, OP_CHECKSEQUENCEVERIFY.
 pub fn age_met(ctx: &Context, e: &[u8]) -> Result<(), Cause>
-    ensures { result ≡ age_verdict ctx.now e.now }
+    ensures { result ≡ age_outcome ctx.now e.now }
 {
     let n = operand(e)?;
     if is_no_lock_number(e, n) {
@@ -243,12 +237,12 @@ pub fn age_met(ctx: &Context, e: &[u8]) -> Result<(), Cause>
     Ok(())
 }
 
-// Whether the bit that stands for this power of two is set.
-fn is_set(power: u64, n: u64) -> bool
-    requires { 0 < power }
-    ensures { result ≡ has_bit power n }
+// Whether the bit of this number is set.
+fn is_set(bit: u32, n: u64) -> bool
+    requires { bit < 64 }
+    ensures { result ≡ has_bit bit n }
 {
-    n / power % 2 == 1
+    (n >> bit) % 2 == 1
 }
 
 // Whether the age isn't reached, or doesn't count.
@@ -258,6 +252,6 @@ fn is_too_young(ctx: &Context, n: u64) -> bool
     let sequence = u64::from(sequence(ctx));
     ctx.version() < 2
         || is_set(OFF_BIT, sequence)
-        || n / TIME_BIT % 2 != sequence / TIME_BIT % 2
+        || is_set(TIME_BIT, n) != is_set(TIME_BIT, sequence)
         || sequence % AGE_LIMIT < n % AGE_LIMIT
 }

@@ -1,5 +1,9 @@
 //! Inputs and outputs, in a frame and in a context.
 
+ghost use Rattle.std.specs.Prelude.{◌≡◌};
+ghost use Rattle.tx_context.specs.Given.{given_bytes};
+ghost use Rattle.tx_context.specs.Transaction;
+
 use std::marker::Model;
 
 /// A locking bytecode in a frame. It may be that of the spend, which is known only when the contract is.
@@ -43,6 +47,21 @@ impl Model for Input {
 
     ghost invariant = { λ i. IsTrue (is_numbered
         (input_parts i.hash i.index i.sequence i.value (given_bytes i.locking) i.unlocking.items)) };
+}
+
+/// An ordinary input: it spends the first output of a transaction whose hash is all zeros, and its sequence number is 0. The
+/// value is in satoshis. It takes no memory.
+pub fn plain_input(value: u64, locking: Bytecode, unlocking: Vec<u8>) -> Input
+    ensures { result ≡ Transaction.plain_input value (given_bytes locking) unlocking.items }
+{
+    Input {
+        hash: [0; 32],
+        index: 0,
+        sequence: 0,
+        value,
+        locking,
+        unlocking,
+    }
 }
 
 /// An output of a frame.

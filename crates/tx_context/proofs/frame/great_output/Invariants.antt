@@ -1,11 +1,10 @@
 use Rattle.std.proofs.Common.{◌≡◌, ◌+◌, drop, map}
-use Rattle.std.specs.List.{position_from, list_any}
+use Rattle.std.specs.List.{position_from}
 use Rattle.tx_context.specs.Limits.{is_great_value}
 use Rattle.tx_context.proofs.frame.great_output.Given as goal
 
--- the first of what is left, counted from here, is the first of all, and there is one in both or in none
+-- the first of what is left, counted from here, is the first of all
 abbrev pub invariant-loop-i : goal.invariant-loop-i
 invariant-loop-i l =
-    (position_from is_great_value (l.inputs + l.i) (map (λ x. x.value) (drop l.i l.outputs))
-    ≡ position_from is_great_value l.inputs (map (λ x. x.value) l.outputs))
-    × (list_any (λ x. is_great_value x.value) (drop l.i l.outputs) ≡ list_any (λ x. is_great_value x.value) l.outputs)
+    position_from is_great_value (l.inputs + l.i) (map (λ x. x.value) (drop l.i l.outputs))
+    ≡ position_from is_great_value l.inputs (map (λ x. x.value) l.outputs)
