@@ -4,8 +4,7 @@ use Rattle.std.proofs.Math.Bool.{and-false}
 use Rattle.std.proofs.lemmas.Bool.{le-ltb}
 use Rattle.cash_base.specs.declared.fault.MachineCause.{MachineCause}
 use Rattle.cash_base.specs.declared.fault.MachineCause.TheVariants.{PushSize, OpLimit, NotMinimal, StackLimit}
-use Rattle.cash_base.specs.Failing.{◌>>=◌}
-use Rattle.tx_context.specs.Refusal.{◌>>◌, refused_if}
+use Rattle.cash_base.specs.Failing.{◌>>=◌, ◌>>◌, refused_if}
 use Rattle.script_codec.specs.declared.instr.Instr.{Instr}
 use Rattle.script_codec.specs.Reading.{Raw, instruction, is_minimal}
 use Rattle.script_codec.specs.Counting.{weight}
@@ -26,14 +25,14 @@ checked over r progress count = do
   b ← lowered r
   Ok (counted (state_of b progress) count)
 
--- the opcodes counted behind it
-abbrev pub count_behind : Raw → Counted → ℕ
-count_behind raw s = s.count + weight raw.opcode
+-- the opcodes counted after it
+abbrev pub count_after : Raw → Counted → ℕ
+count_after raw s = s.count + weight raw.opcode
 
 abbrev pub checked_after : Raw → Instr → Counted → Result Counted MachineCause
 checked_after raw instr s =
-    checked (nat_lt 201 (count_behind raw s)) (board_after instr s.state.board)
-    (progress_after instr s.state.board.conditions s.state.progress) (count_behind raw s)
+    checked (nat_lt 201 (count_after raw s)) (board_after instr s.state.board)
+    (progress_after instr s.state.board.conditions s.state.progress) (count_after raw s)
 
 -- all the checks, by what they test
 abbrev all_checks : Bool → Bool → Instr → ℕ → Counted → Result Counted MachineCause
@@ -47,7 +46,7 @@ all_checks long unfit instr count s = do
 pub raw-checked : (raw : Raw) (instr : Instr) (s : Counted) → instruction raw ≡ instr → is_minimal raw ≡ true
     → length raw.pushed ≤ 520 → raw_after raw s ≡ checked_after raw instr s
 raw-checked raw instr s meant minimal short =
-    let count = count_behind raw s in
+    let count = count_after raw s in
     let live = is_live s.state.board.conditions in
     ap (λ long. all_checks long (live && not (is_minimal raw)) (instruction raw) count s)
     (le-ltb 520 (length raw.pushed) short)
@@ -68,6 +67,6 @@ closed r = do
   s ← r
   balanced s.board.conditions s
 
--- the run of the code that stands behind an instruction, by what the instruction does
+-- the run of the code that stands after an instruction, by what the instruction does
 abbrev pub ran_from : List Instr → ℕ → Progress → Result Board MachineCause → Result State Failure
 ran_from code at progress r = closed (passed at progress r >>= run code)

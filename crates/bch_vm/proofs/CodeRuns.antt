@@ -11,10 +11,10 @@ use Rattle.bch_vm.specs.Script.{State, state_of, run, Counted, counted, Progress
 use Rattle.bch_vm.specs.Course.{Course, ◌>>=◌}
 use Rattle.bch_vm.specs.Spend.{told, step_course, pieces_course}
 use Rattle.bch_vm.proofs.Endings.{ends, Stays, ends-told}
-use Rattle.bch_vm.proofs.Checked.{checked, count_behind, raw-checked, closed, under, ran_from}
+use Rattle.bch_vm.proofs.Checked.{checked, count_after, raw-checked, closed, under, ran_from}
 use Rattle.bch_vm.proofs.Spelled.{IsFit, pieces_of}
 
--- an instruction that passes its checks but for those of the limits, and the code behind it
+-- an instruction that passes its checks but for those of the limits, and the code after it
 instr_runs : (which : Which) (piece : Piece) (instr : Instr) (code : List Instr) (s : Counted)
     (f : Counted → Course State) (count : ℕ)
     → piece_after piece s
@@ -52,5 +52,5 @@ code_runs which [] s fit stays = ends-told which (balanced s.state.board.conditi
 code_runs which (instr ∷ code) s fit stays =
     let raw = spelled instr in
     let checks = raw-checked raw instr s fit.0.meant fit.0.minimal fit.0.short in
-    instr_runs which (Whole raw) instr code s (pieces_course which (pieces_of code)) (count_behind raw s) checks
+    instr_runs which (Whole raw) instr code s (pieces_course which (pieces_of code)) (count_after raw s) checks
     (λ next more. code_runs which code next fit.1 more) stays

@@ -12,7 +12,7 @@ use Rattle.bch_vm.specs.Script.{State, state_of, Counted, counted, Progress, pro
 use Rattle.bch_vm.specs.Course.{Course, ◌>>=◌}
 use Rattle.bch_vm.specs.Spend.{told, step_course, pieces_course}
 use Rattle.bch_vm.proofs.Endings.{Stays}
-use Rattle.bch_vm.proofs.Checked.{checked, count_behind, raw-checked, under}
+use Rattle.bch_vm.proofs.Checked.{checked, count_after, raw-checked, under}
 use Rattle.bch_vm.proofs.Spelled.{IsFit, pieces_of, push_opcode}
 use Rattle.bch_vm.proofs.Modest.{IsModestOn, instr-modest}
 
@@ -91,5 +91,5 @@ code_stays which [] s fit low few = balanced_stays which s.state.board.condition
 code_stays which (instr ∷ code) s fit low few =
     let checks = raw-checked (spelled instr) instr s fit.0.meant fit.0.minimal fit.0.short in
     instr_stays which (Whole (spelled instr)) instr s (pieces_course which (pieces_of code))
-    (count_behind (spelled instr) s) checks (omega (arith, few)) (omega (arith, low))
+    (count_after (spelled instr) s) checks (omega (arith, few)) (omega (arith, low))
     (λ next more same. code_stays which code next fit.1 (omega (arith, low, more)) (omega (arith, few, same)))

@@ -12,7 +12,7 @@ use Rattle.script_codec.specs.Reading.{reading, push}
 use Rattle.bch_vm.specs.Stack.{Stack}
 use Rattle.bch_vm.specs.Script.{run_end}
 use Rattle.bch_vm.specs.Course.{outcome_of}
-use Rattle.bch_vm.specs.Spend.{is_p2sh, behind_redeem, behind_locking, behind_unlocking, scripts_course, spent_input, spend_outcome}
+use Rattle.bch_vm.specs.Spend.{is_p2sh, after_redeem, after_locking, after_unlocking, scripts_course, spent_input, spend_outcome}
 use Rattle.bch_vm.specs.Law.{IsRedeemed, decided_by, is_in_room}
 use Rattle.bch_vm.proofs.Endings.{Stays, stays_before}
 use Rattle.bch_vm.proofs.Spelled.{Laws, IsShort, code_read, code_fit, are_pushes, pushes_fit}
@@ -71,12 +71,12 @@ decides elements code unlocking locking read room =
     let redeem = spellings code in
     let first = ap outcome_of (begins elements code unlocking locking read) in
     let stays : Stays (unlocking_course read.pushes) = stays_before (unlocking_course read.pushes)
-    (behind_unlocking unlocking locking) (subst (λ o. IsTrue (is_in_room o)) first room) in
+    (after_unlocking unlocking locking) (subst (λ o. IsTrue (is_in_room o)) first room) in
     let second = first ∙ unlocked elements code unlocking locking read stays in
     let locked : Stays (locking_course redeem elements) = stays_before (locking_course redeem elements)
-    (behind_locking unlocking locking) (subst (λ o. IsTrue (is_in_room o)) second room) in
+    (after_locking unlocking locking) (subst (λ o. IsTrue (is_in_room o)) second room) in
     let third = second ∙ unlocked_twice elements code unlocking locking read stays locked in
-    let ran : Stays (redeem_course code elements) = stays_before (redeem_course code elements) behind_redeem
+    let ran : Stays (redeem_course code elements) = stays_before (redeem_course code elements) after_redeem
     (subst (λ o. IsTrue (is_in_room o)) third room) in
     third ∙ redeemed_runs elements code read.redeem_fit ran
 

@@ -41,9 +41,9 @@ stays_before (Passes row rest) f h = stays_before rest f h
 stays_before (Gives a) f h = tt
 stays_before (Stops outcome) f h = h
 
--- and what has stopped at no limit is in room at its end, where everything behind it is
+-- and what has stopped at no limit is in room at its end, where everything after it is
 pub stays_on : {A : Type 0} (c : Course A) (f : A → Course MachineOutcome) → Stays c
     → ((a : A) → IsTrue (is_in_room (outcome_of (f a)))) → IsTrue (is_in_room (outcome_of (c >>= f)))
-stays_on (Passes row rest) f h behind = stays_on rest f h behind
-stays_on (Gives a) f h behind = behind a
-stays_on (Stops outcome) f h behind = h
+stays_on (Passes row rest) f h after = stays_on rest f h after
+stays_on (Gives a) f h after = after a
+stays_on (Stops outcome) f h after = h

@@ -5,10 +5,11 @@ use Rattle.std.proofs.lemmas.Slice.Eq.{bytes_eq-Decides}
 use Rattle.std.specs.List.{AllByRecursion}
 use Rattle.ripemd160.specs.Ripemd160.{ripemd160}
 use Rattle.sha2.specs.Sha256.{sha256}
-use Rattle.element_ops.specs.Operand.{truth_bytes}
+use Rattle.cash_base.specs.Operand.{truth_bytes}
+use Rattle.cash_base.specs.Push.{push_prefix}
 use Rattle.script_codec.specs.declared.instr.Instr.{Instr}
 use Rattle.script_codec.specs.declared.instr.Instr.TheVariants.{Do}
-use Rattle.script_codec.specs.Spelling.{push_prefix, minimal_push, spellings}
+use Rattle.script_codec.specs.Spelling.{minimal_push, spellings}
 use Rattle.script_codec.specs.Reading.{push}
 use Rattle.bch_vm.specs.Stack.{Stack}
 use Rattle.bch_vm.specs.Script.{run, state, beginning}

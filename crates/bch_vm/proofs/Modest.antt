@@ -4,11 +4,10 @@ use Rattle.std.specs.List.{AllByRecursion}
 use Rattle.cash_base.specs.declared.fault.Cause.{Cause}
 use Rattle.cash_base.specs.declared.fault.MachineCause.{MachineCause}
 use Rattle.cash_base.specs.declared.fault.MachineCause.TheVariants.{Disabled}
-use Rattle.cash_base.specs.Failing.{◌>>=◌}
-use Rattle.tx_context.specs.Refusal.{◌>>◌, refused_if}
+use Rattle.cash_base.specs.Failing.{◌>>=◌, ◌>>◌, refused_if}
+use Rattle.cash_base.specs.Operand.{operand_number}
 use Rattle.element_ops.specs.declared.op.Op1.TheVariants.{Hash160}
 use Rattle.element_ops.specs.declared.op.Op2.TheVariants.{NumEqual, Equal}
-use Rattle.element_ops.specs.Operand.{operand_number}
 use Rattle.element_ops.specs.Operation.{result1, result2}
 use Rattle.script_codec.specs.declared.instr.Instr.{Instr}
 use Rattle.script_codec.specs.declared.instr.Instr.TheVariants.{Push, Do}

@@ -15,7 +15,7 @@ use Rattle.bch_vm.specs.Stack.{Stack}
 use Rattle.bch_vm.specs.Script.{State, state, state_of, beginning, counted}
 use Rattle.bch_vm.specs.Board.{board}
 use Rattle.bch_vm.specs.Course.{Course, Gives, Stops, ◌>>◌, outcome_of}
-use Rattle.bch_vm.specs.Spend.{behind_redeem, clean, scripts_course, spent_input, spend_outcome}
+use Rattle.bch_vm.specs.Spend.{after_redeem, clean, scripts_course, spent_input, spend_outcome}
 use Rattle.bch_vm.specs.Law.{IsRedeemed, IsSmall, is_in_room}
 use Rattle.bch_vm.proofs.Endings.{Stays, stays_on}
 use Rattle.bch_vm.proofs.Spelled.{Laws}
@@ -35,7 +35,7 @@ clean-in_room last (e ∷ a ∷ rest) = refl
 abbrev pub tested : Bool → ℕ → Course (Unit {0})
 tested truth last = cond truth (Gives tt) (Stops (Refused Redeem last EndFalse))
 
-end-in_room : (end : State) → IsTrue (is_in_room (outcome_of (behind_redeem end)))
+end-in_room : (end : State) → IsTrue (is_in_room (outcome_of (after_redeem end)))
 end-in_room end = by_stack end.board.stack
   where
     by_truth : (stack : Stack) (truth : Bool)
@@ -46,7 +46,7 @@ end-in_room end = by_stack end.board.stack
 
     by_stack : (stack : Stack)
         → IsTrue (is_in_room
-        (outcome_of (behind_redeem
+        (outcome_of (after_redeem
         (state_of (board stack end.board.alternate end.board.conditions) end.progress))))
     by_stack [] = refl
     by_stack (e ∷ rest) = by_truth (e ∷ rest) (truth_of e)
@@ -97,7 +97,7 @@ in_room elements code unlocking locking read small =
     let third = first ∙ unlocked elements code unlocking locking read stays
     ∙ unlocked_twice elements code unlocking locking read stays locked in
     subst (λ o. IsTrue (is_in_room o)) (sym third)
-    (stays_on (redeem_course code elements) behind_redeem
+    (stays_on (redeem_course code elements) after_redeem
     (redeem_stays elements code unlocking locking read small) end-in_room)
 
 pub code_in_room : Laws

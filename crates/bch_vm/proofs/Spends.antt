@@ -13,7 +13,7 @@ use Rattle.cash_base.specs.declared.fault.MachineCause.TheVariants.{NotPushOnly,
 use Rattle.bch_vm.specs.Stack.{Stack}
 use Rattle.bch_vm.specs.Script.{State, state, beginning, run, run_end, Progress, progress_after, counted, Failure}
 use Rattle.bch_vm.specs.Course.{Course, Gives, Stops, ◌>>=◌, ◌>>◌, outcome_of}
-use Rattle.bch_vm.specs.Spend.{told, pieces_course, script_course, push_check, given_stack, stack_left, is_p2sh, redeemed, clean, behind_redeem, behind_locking, behind_unlocking, scripts_course}
+use Rattle.bch_vm.specs.Spend.{told, pieces_course, script_course, push_check, given_stack, stack_left, is_p2sh, redeemed, clean, after_redeem, after_locking, after_unlocking, scripts_course}
 use Rattle.bch_vm.specs.Law.{decided_by}
 use Rattle.bch_vm.proofs.Endings.{ends, Stays, outcome-ends, given-ends}
 use Rattle.bch_vm.proofs.Checked.{closed}
@@ -80,13 +80,13 @@ redeem_course code elements = course_on Redeem (pieces_of code) elements
 -- the pushes alone are run first
 pub begins : (elements : Stack) (code : List Instr) (unlocking locking : List ℕ)
     (read : AreRead elements code unlocking locking)
-    → scripts_course unlocking locking ≡ (unlocking_course read.pushes >>= behind_unlocking unlocking locking)
+    → scripts_course unlocking locking ≡ (unlocking_course read.pushes >>= after_unlocking unlocking locking)
 begins elements code unlocking locking read =
     ap (λ pieces. push_check 0 pieces >>
-    (script_course Unlocking unlocking [] >>= behind_unlocking unlocking locking)) read.unlocking_read
-    ∙ ap (λ checked. checked >> (script_course Unlocking unlocking [] >>= behind_unlocking unlocking locking))
+    (script_course Unlocking unlocking [] >>= after_unlocking unlocking locking)) read.unlocking_read
+    ∙ ap (λ checked. checked >> (script_course Unlocking unlocking [] >>= after_unlocking unlocking locking))
     (pushes_pass read.pushes 0 read.unlocking_fit)
-    ∙ ap (λ course. course >>= behind_unlocking unlocking locking)
+    ∙ ap (λ course. course >>= after_unlocking unlocking locking)
     (script_read Unlocking unlocking
     (pieces_of (map push read.pushes)) [] read.unlocking_size read.unlocking_read)
 
@@ -116,13 +116,13 @@ left_is elements code unlocking locking read stays =
 pub unlocked : (elements : Stack) (code : List Instr) (unlocking locking : List ℕ)
     (read : AreRead elements code unlocking locking)
     → Stays (unlocking_course read.pushes)
-    → outcome_of (unlocking_course read.pushes >>= behind_unlocking unlocking locking)
-    ≡ outcome_of (locking_course (spellings code) elements >>= behind_locking unlocking locking)
+    → outcome_of (unlocking_course read.pushes >>= after_unlocking unlocking locking)
+    ≡ outcome_of (locking_course (spellings code) elements >>= after_locking unlocking locking)
 unlocked elements code unlocking locking read stays =
-    outcome-ends (unlocking_course read.pushes) (behind_unlocking unlocking locking)
-    ∙ ap (λ course. outcome_of (course >>= behind_unlocking unlocking locking))
+    outcome-ends (unlocking_course read.pushes) (after_unlocking unlocking locking)
+    ∙ ap (λ course. outcome_of (course >>= after_unlocking unlocking locking))
     (unlocking_ends elements code unlocking locking read stays).1
-    ∙ ap (λ course. outcome_of (course >>= behind_locking unlocking locking))
+    ∙ ap (λ course. outcome_of (course >>= after_locking unlocking locking))
     (script_read Locking locking (pieces_of (locking_code (spellings code)))
     (spellings code ∷ elements) read.locking_size read.locking_read)
 
@@ -130,34 +130,34 @@ unlocked elements code unlocking locking read stays =
 pub unlocked_twice : (elements : Stack) (code : List Instr) (unlocking locking : List ℕ)
     (read : AreRead elements code unlocking locking)
     → Stays (unlocking_course read.pushes) → Stays (locking_course (spellings code) elements)
-    → outcome_of (locking_course (spellings code) elements >>= behind_locking unlocking locking)
-    ≡ outcome_of (redeem_course code elements >>= behind_redeem)
+    → outcome_of (locking_course (spellings code) elements >>= after_locking unlocking locking)
+    ≡ outcome_of (redeem_course code elements >>= after_redeem)
 unlocked_twice elements code unlocking locking read stays locked =
     let redeem = spellings code in
-    outcome-ends (locking_course redeem elements) (behind_locking unlocking locking)
-    ∙ ap (λ course. outcome_of (course >>= behind_locking unlocking locking))
+    outcome-ends (locking_course redeem elements) (after_locking unlocking locking)
+    ∙ ap (λ course. outcome_of (course >>= after_locking unlocking locking))
     (code_runs Locking (locking_code redeem)
     (counted (state (redeem ∷ elements) beginning) 0) read.locking_fit locked)
-    ∙ ap (λ r. outcome_of (told Locking (closed r) >>= behind_locking unlocking locking)) (locking_run redeem elements)
+    ∙ ap (λ r. outcome_of (told Locking (closed r) >>= after_locking unlocking locking)) (locking_run redeem elements)
     ∙ ap (λ is. outcome_of
     (cond is (redeemed 2 (stack_left unlocking)) (Stops (clean Locking 2 ((1 ∷ []) ∷ elements)))))
     read.locking_p2sh
     ∙ ap (λ stack. outcome_of (redeemed 2 stack)) (left_is elements code unlocking locking read stays)
-    ∙ ap (λ course. outcome_of (course >>= behind_redeem))
+    ∙ ap (λ course. outcome_of (course >>= after_redeem))
     (script_read Redeem redeem (pieces_of code) elements read.redeem_size read.redeem_read)
 
 -- ---- the redeem script
 
-told-decided : (r : Result State Failure) → outcome_of (told Redeem r >>= behind_redeem) ≡ decided_by r
+told-decided : (r : Result State Failure) → outcome_of (told Redeem r >>= after_redeem) ≡ decided_by r
 told-decided (Ok end) = refl
 told-decided (Err failure) = refl
 
 -- whose run decides
 pub redeemed_runs : (elements : Stack) (code : List Instr) → AllByRecursion IsFit code
     → Stays (redeem_course code elements)
-    → outcome_of (redeem_course code elements >>= behind_redeem) ≡ decided_by (run_end code elements)
+    → outcome_of (redeem_course code elements >>= after_redeem) ≡ decided_by (run_end code elements)
 redeemed_runs elements code fit stays =
-    outcome-ends (redeem_course code elements) behind_redeem
-    ∙ ap (λ course. outcome_of (course >>= behind_redeem))
+    outcome-ends (redeem_course code elements) after_redeem
+    ∙ ap (λ course. outcome_of (course >>= after_redeem))
     (code_runs Redeem code (counted (state elements beginning) 0) fit stays)
     ∙ told-decided (run_end code elements)

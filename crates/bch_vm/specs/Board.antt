@@ -3,9 +3,8 @@ use Rattle.std.specs.Prelude.{ℕ, ◌+◌, ◌==◌, Bool, true, false, not, �
 use Rattle.std.specs.List.{list_all}
 use Rattle.cash_base.specs.declared.fault.MachineCause.{MachineCause}
 use Rattle.cash_base.specs.declared.fault.MachineCause.TheVariants.{BadOpcode, Disabled, Unbalanced, StackLimit}
-use Rattle.cash_base.specs.Failing.{◌>>=◌}
+use Rattle.cash_base.specs.Failing.{◌>>=◌, ◌>>◌, refused_if}
 use Rattle.cash_base.specs.Number.{truth_of}
-use Rattle.tx_context.specs.Refusal.{◌>>◌, refused_if}
 use Rattle.script_codec.specs.declared.instr.Instr.{Instr}
 use Rattle.script_codec.specs.declared.instr.Instr.TheVariants.{Push, Do}
 use Rattle.bch_vm.specs.Stack.{Stack, Action}
@@ -121,7 +120,7 @@ abbrev pub board_after : Instr → Move
 board_after (Push e) b = Ok (pushed_where (is_live b.conditions) e.items b)
 board_after (Do opcode) b = opcode_after opcode.0 b
 
--- and behind it more than 1,000 elements on both stacks are refused
+-- and after it more than 1,000 elements on both stacks are refused
 abbrev pub limited_after : Instr → Move
 limited_after instr b = do
   next ← board_after instr b

@@ -4,7 +4,7 @@ use Rattle.bch_vm.specs.declared.outcome.MachineOutcome.{MachineOutcome}
 use Rattle.bch_vm.specs.declared.outcome.Which.{Which}
 use Rattle.bch_vm.specs.Stack.{Stack}
 
--- an instruction that was passed: its script and index, whether it was executed, and the stack behind it
+-- an instruction that was passed: its script and index, whether it was executed, and the stack after it
 pub record Row : Type 0 where
   pub script : Which
   pub at : ℕ
@@ -14,7 +14,7 @@ pub record Row : Type 0 where
 abbrev pub row_of : Which → ℕ → Bool → Stack → Row
 row_of script at executed stack = record { script = script; at = at; executed = executed; stack = stack }
 
--- rows, and behind them a result, or the end of the whole spend
+-- rows, and after them a result, or the end of the whole spend
 pub data Course (A : Type 0) : Type 0 where
   Passes : Row → Course A → Course A
   Gives : A → Course A

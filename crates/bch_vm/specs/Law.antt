@@ -18,7 +18,7 @@ use Rattle.bch_vm.specs.declared.outcome.MachineOutcome.TheVariants.{Accepted, R
 use Rattle.bch_vm.specs.Stack.{Stack}
 use Rattle.bch_vm.specs.Script.{State, stack_at_end, Failure}
 use Rattle.bch_vm.specs.Course.{outcome_of}
-use Rattle.bch_vm.specs.Spend.{spent_input, behind_redeem}
+use Rattle.bch_vm.specs.Spend.{spent_input, after_redeem}
 
 -- ---- the two scripts
 
@@ -53,7 +53,7 @@ pub record IsSmall (elements : Stack) (code : List Instr) : Type 0 where
 -- The end of the run decides as the end of a redeem script: it is accepted where one element is left, which is true,
 -- and otherwise refused by what is left. A failure of the run is that of the redeem script, with its index and cause.
 abbrev pub decided_by : Result State Failure → MachineOutcome
-decided_by (Ok end) = outcome_of (behind_redeem end)
+decided_by (Ok end) = outcome_of (after_redeem end)
 decided_by (Err failure) = Refused Redeem failure.at failure.cause
 
 -- the run ends with one element, which is true

@@ -5,7 +5,7 @@ use Rattle.cash_base.specs.declared.fault.MachineCause.TheVariants.{Underflow, B
 use Rattle.cash_base.specs.Failing.{◌>>=◌}
 use Rattle.element_ops.specs.declared.op.Op1.TheVariants.{Hash160}
 use Rattle.element_ops.specs.declared.op.Op2.TheVariants.{NumEqual, Equal}
-use Rattle.element_ops.specs.Operand.{operand_number}
+use Rattle.cash_base.specs.Operand.{operand_number}
 use Rattle.element_ops.specs.Operation.{result1, result2}
 use Rattle.bch_vm.specs.Stack.{Stack, Action, shared, on_one, on_two}
 

@@ -1,6 +1,7 @@
 -- Where a run of a script is.
 use Rattle.std.specs.Prelude.{◌≡◌, ℕ, ◌≤◌, Bool, List, length, drop, Option, Some, None, Result, Ok, Err}
 use Rattle.cash_base.specs.declared.fault.MachineCause.{MachineCause}
+use Rattle.tx_context.specs.declared.frame.TheConstants.{LONGEST_BYTECODE}
 use Rattle.script_codec.specs.Reading.{reading}
 use Rattle.bch_vm.specs.declared.outcome.Which.{Which}
 use Rattle.bch_vm.specs.declared.outcome.MachineOutcome.TheVariants.{Refused}
@@ -26,7 +27,7 @@ pub record IsBounded (p : Position) : Type 0 where
   pub opened : length (state_at p).board.conditions ≤ p.counted.count
   pub count : p.counted.count ≤ 201
   pub passed : (state_at p).progress.at ≤ p.place
-  pub place : p.place ≤ 20000
+  pub place : p.place ≤ LONGEST_BYTECODE
 
 -- the course of what is left of the script
 abbrev pub rest_course : Which → List ℕ → Position → Course State

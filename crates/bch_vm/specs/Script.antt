@@ -2,8 +2,7 @@
 use Rattle.std.specs.Prelude.{◌≡◌, ℕ, ◌+◌, Bool, not, ◌&&◌, nat_lt, if◌then◌else◌, List, [], ◌∷◌, ◌++◌, length, Result, Ok, Err}
 use Rattle.cash_base.specs.declared.fault.MachineCause.{MachineCause}
 use Rattle.cash_base.specs.declared.fault.MachineCause.TheVariants.{Truncated, PushSize, OpLimit, NotMinimal, Unbalanced}
-use Rattle.cash_base.specs.Failing.{◌>>=◌}
-use Rattle.tx_context.specs.Refusal.{◌>>◌, refused_if}
+use Rattle.cash_base.specs.Failing.{◌>>=◌, ◌>>◌, refused_if}
 use Rattle.script_codec.specs.declared.instr.Instr.{Instr}
 use Rattle.script_codec.specs.Reading.{Raw, Piece, Whole, CutOff, instruction, is_minimal}
 use Rattle.script_codec.specs.Counting.{weight}

@@ -3,7 +3,7 @@ use Rattle.std.specs.Prelude.{ℕ, ◌+◌, ◌==◌, Bool, false, ◌&&◌, nat
 use Rattle.cash_base.specs.declared.fault.MachineCause.{MachineCause}
 use Rattle.cash_base.specs.declared.fault.MachineCause.TheVariants.{Truncated, NotPushOnly, HashDiffers, EndFalse, EndEmpty, NotClean, ScriptSize}
 use Rattle.cash_base.specs.Number.{truth_of}
-use Rattle.tx_context.specs.Transaction.{InputParts, Transaction, input_parts}
+use Rattle.tx_context.specs.Transaction.{InputParts, Transaction, plain_input}
 use Rattle.tx_context.specs.Table as verdict
 use Rattle.script_codec.specs.Reading.{Piece, Whole, CutOff, instruction, reading}
 use Rattle.bch_vm.specs.declared.outcome.Which.{Which}
@@ -89,8 +89,8 @@ abbrev pub false_cause : List ℕ → MachineCause
 false_cause locking = if is_p2sh locking then HashDiffers else EndFalse
 
 -- the end of the redeem script decides
-abbrev pub behind_redeem : State → Course MachineOutcome
-behind_redeem end = do
+abbrev pub after_redeem : State → Course MachineOutcome
+after_redeem end = do
   top_check Redeem EndFalse end.progress.last end.board.stack
   Stops (clean Redeem end.progress.last end.board.stack)
 
@@ -99,18 +99,18 @@ abbrev pub redeemed : ℕ → Stack → Course MachineOutcome
 redeemed last [] = Stops (Refused Locking last EndEmpty)
 redeemed last (redeem ∷ rest) = do
   end ← script_course Redeem redeem rest
-  behind_redeem end
+  after_redeem end
 
--- Behind a locking script of that pattern the stack that the unlocking script left is taken again.
-abbrev pub behind_locking : List ℕ → List ℕ → State → Course MachineOutcome
-behind_locking unlocking locking end = do
+-- After a locking script of that pattern the stack that the unlocking script left is taken again.
+abbrev pub after_locking : List ℕ → List ℕ → State → Course MachineOutcome
+after_locking unlocking locking end = do
   top_check Locking (false_cause locking) end.progress.last end.board.stack
   if is_p2sh locking then redeemed end.progress.last (stack_left unlocking) else Stops (clean Locking end.progress.last end.board.stack)
 
-abbrev pub behind_unlocking : List ℕ → List ℕ → State → Course MachineOutcome
-behind_unlocking unlocking locking left = do
+abbrev pub after_unlocking : List ℕ → List ℕ → State → Course MachineOutcome
+after_unlocking unlocking locking left = do
   end ← script_course Locking locking left.board.stack
-  behind_locking unlocking locking end
+  after_locking unlocking locking end
 
 -- ---- a spend
 
@@ -119,11 +119,11 @@ abbrev pub scripts_course : List ℕ → List ℕ → Course MachineOutcome
 scripts_course unlocking locking = do
   push_check 0 (reading unlocking)
   left ← script_course Unlocking unlocking []
-  behind_unlocking unlocking locking left
+  after_unlocking unlocking locking left
 
 -- the input that is spent, which each context has
 abbrev pub spent_input : Transaction (List ℕ) → InputParts (List ℕ)
-spent_input t = slice_index_or t.inputs t.active (input_parts [] 0 0 0 [] [])
+spent_input t = slice_index_or t.inputs t.active (plain_input 0 [] [])
 
 -- The course of the spend of the active input. No opcode of today asks for the verdicts or for the rest of the context.
 abbrev pub spend_course : Transaction (List ℕ) → List verdict.Row → Course MachineOutcome

@@ -12,7 +12,7 @@ use Rattle.bch_vm.specs.declared.phase.Phase.TheVariants.{Begin, Running, Over}
 use Rattle.bch_vm.specs.Stack.{Stack}
 use Rattle.bch_vm.specs.Script.{State, balanced}
 use Rattle.bch_vm.specs.Course.{Course, Passes, Stops, ◌>>=◌, row_of}
-use Rattle.bch_vm.specs.Spend.{told, behind_unlocking, behind_locking, behind_redeem, scripts_course, spent_input, spend_course}
+use Rattle.bch_vm.specs.Spend.{told, after_unlocking, after_locking, after_redeem, scripts_course, spent_input, spend_course}
 use Rattle.bch_vm.specs.Position.{Position, state_at, rest_course}
 
 -- how far the spend is, where the run of its script is, and the redeem script
@@ -33,20 +33,20 @@ script_of Unlocking unlocking locking redeem = unlocking
 script_of Locking unlocking locking redeem = locking
 script_of Redeem unlocking locking redeem = redeem
 
--- what comes behind a script
-abbrev pub behind : Which → List ℕ → List ℕ → State → Course MachineOutcome
-behind Unlocking unlocking locking s = behind_unlocking unlocking locking s
-behind Locking unlocking locking s = behind_locking unlocking locking s
-behind Redeem unlocking locking s = behind_redeem s
+-- what comes after a script
+abbrev pub after : Which → List ℕ → List ℕ → State → Course MachineOutcome
+after Unlocking unlocking locking s = after_unlocking unlocking locking s
+after Locking unlocking locking s = after_locking unlocking locking s
+after Redeem unlocking locking s = after_redeem s
 
--- what comes behind the last instruction of a script, where no condition may be open
+-- what comes after the last instruction of a script, where no condition may be open
 abbrev pub closed_course : Which → List ℕ → List ℕ → State → Course MachineOutcome
-closed_course which unlocking locking s = told which (balanced s.board.conditions s) >>= behind which unlocking locking
+closed_course which unlocking locking s = told which (balanced s.board.conditions s) >>= after which unlocking locking
 
 abbrev pub phase_course : Phase → Position → List ℕ → List ℕ → List ℕ → Course MachineOutcome
 phase_course Begin p redeem unlocking locking = scripts_course unlocking locking
 phase_course (Running which) p redeem unlocking locking =
-    rest_course which (script_of which unlocking locking redeem) p >>= behind which unlocking locking
+    rest_course which (script_of which unlocking locking redeem) p >>= after which unlocking locking
 phase_course (Over outcome) p redeem unlocking locking = Stops outcome
 
 -- the course of what is left of the spend by these scripts
@@ -61,12 +61,21 @@ course_from context verdicts s = scripts_from (spent_input context).unlocking (s
 abbrev pub IsAtBeginning : Status → Type 0
 IsAtBeginning s = (context : Transaction (List ℕ)) (verdicts : List verdict.Row) → course_from context verdicts s ≡ spend_course context verdicts
 
--- What a step answers by the course that was left, with the course that is left behind it and the stack. It answers the
+-- What a step answers by the course that was left, with the course that is left after it and the stack. It answers the
 -- first row; at the end it answers the end, and the end is what is left.
 abbrev pub Goes : Course MachineOutcome → Step → Course MachineOutcome → Stack → Type 0
 Goes (Passes row rest) (Ran script at executed) next stack = (row ≡ row_of script at executed stack) × (next ≡ rest)
 Goes (Stops outcome) (Ended answer) next stack = (answer ≡ outcome) × (next ≡ Stops outcome)
 Goes _ _ next stack = ⊥
+
+-- the spend has ended so: nothing else is left of it, whatever it is handed from here on
+abbrev pub IsAtEnd : MachineOutcome → Status → Type 0
+IsAtEnd outcome s = (context : Transaction (List ℕ)) (verdicts : List verdict.Row) → course_from context verdicts s ≡ Stops outcome
+
+-- a step that answers an end leaves the machine there
+abbrev pub StaysAtEnd : Step → Status → Type 0
+StaysAtEnd (Ran script at executed) s = Unit {0}
+StaysAtEnd (Ended outcome) s = IsAtEnd outcome s
 
 -- how many phases are left at most
 abbrev pub rank : Phase → ℕ

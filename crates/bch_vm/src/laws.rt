@@ -10,7 +10,7 @@ ghost use Rattle.bch_vm.specs.Script.{State, run_end, Failure};
 ghost use Rattle.bch_vm.specs.Spend.{spend_outcome};
 ghost use Rattle.bch_vm.specs.Law.{IsRedeemed, IsSmall, EndsTrue, decided_by, is_in_room};
 
-use script_codec::laws::{meaning_of_spelled, reading_behind_encoded, reading_in_turn};
+use script_codec::laws::{meaning_of_spelled, reading_after_encoded, reading_in_turn};
 
 /// A spend of code as a redeem script ends as the run of its instructions on the elements that are pushed, if the spend
 /// isn't refused for more than 201 opcodes in a script or more than 1,000 elements.
@@ -26,7 +26,7 @@ pub fn redeemed_code_decides()
         → spend_outcome context verdicts ≡ decided_by (run_end code elements) }
 {
     reading_in_turn();
-    reading_behind_encoded();
+    reading_after_encoded();
     meaning_of_spelled();
 }
 
@@ -39,7 +39,7 @@ pub fn spend_stays_in_room()
         → IsTrue (is_in_room (spend_outcome context verdicts)) }
 {
     reading_in_turn();
-    reading_behind_encoded();
+    reading_after_encoded();
     meaning_of_spelled();
 }
 

@@ -12,6 +12,3 @@ mod stack;
 pub use cash_base::MachineCause;
 pub use machine::Machine;
 pub use outcome::{MachineOutcome, Step, Which};
-
-#[cfg(test)]
-mod tests;

@@ -1,16 +1,15 @@
 //! The machine: a spend's scripts, one after the other, in a room that is reserved at first.
 
 ghost use Rattle.std.specs.Prelude.{◌≡◌, ◌+◌, ◌≤◌, ◌<◌, List, ℕ, [], ◌∷◌, length, map, reverse, IfOk, IfErr, OnOk, IfSome, IfNone, slice_index_or, ◌++◌};
-ghost use Rattle.tx_context.specs.Limits.{IsContext};
 ghost use Rattle.script_codec.specs.Reading.{reading};
 ghost use Rattle.bch_vm.specs.declared.phase.Phase.TheVariants.{Running, Over};
 ghost use Rattle.script_codec.specs.declared.instr.Instr.{Instr};
 ghost use Rattle.bch_vm.specs.Script.{RunsInTurn};
 ghost use Rattle.bch_vm.specs.Course.{Gives, Stops};
 ghost use Rattle.bch_vm.specs.Spend;
-ghost use Rattle.bch_vm.specs.Spend.{push_check, stack_left, behind_unlocking, behind_locking, behind_redeem, redeemed, scripts_course, spent_input, spend_outcome};
+ghost use Rattle.bch_vm.specs.Spend.{push_check, stack_left, after_unlocking, after_locking, after_redeem, redeemed, scripts_course, spent_input, spend_outcome};
 ghost use Rattle.bch_vm.specs.Position.{Position, position, state_at};
-ghost use Rattle.bch_vm.specs.Status.{Status, stack_of, script_of, closed_course, scripts_from, course_from, IsAtBeginning, Goes, rank};
+ghost use Rattle.bch_vm.specs.Status.{Status, stack_of, script_of, closed_course, scripts_from, course_from, IsAtBeginning, Goes, IsAtEnd, StaysAtEnd, rank};
 
 use crate::outcome::{MachineOutcome, Step, Which};
 use crate::phase::Phase;
@@ -19,7 +18,7 @@ use cash_base::{Element, MachineCause, Memory};
 use script_codec::next_instr;
 use std::alloc::Global;
 use std::marker::Model;
-use tx_context::{Context, ContextInput, Verdicts};
+use tx_context::{Context, LONGEST_BYTECODE, Verdicts};
 
 /// The machine of Bitcoin Cash, as it is after May 2022, in a spend.
 ///
@@ -41,7 +40,7 @@ impl Model for Machine {
 }
 
 impl Machine {
-    /// A machine at the beginning of a spend. Its stacks are reserved, so that nothing behind this takes memory.
+    /// A machine at the beginning of a spend. Its stacks are reserved, so that nothing after this takes memory.
     pub fn new(alloc: Global) -> Result<Machine, Memory>
         ensures begins { IfOk result IsAtBeginning }
         ensures stack { IfOk result (λ machine. stack_of machine ≡ []) }
@@ -72,10 +71,12 @@ impl Machine {
     /// Passes one instruction of the spend of the context's active input, or answers its end.
     ///
     /// From the beginning on, steps with the same context and table answer `Ran` for each instruction that is passed, in
-    /// branches that aren't taken too, with the stack behind it, and then the end, again and again.
+    /// branches that aren't taken too, with the stack after it, and then the end. After it each step answers the end again,
+    /// whatever context and table it is handed.
     pub fn step(&mut self, context: &Context, verdicts: &Verdicts) -> Step
-        ensures { Goes (course_from context.now verdicts.now self.old) result
+        ensures goes { Goes (course_from context.now verdicts.now self.old) result
             (course_from context.now verdicts.now self.new) (stack_of self.new) }
+        ensures stays { StaysAtEnd result self.new }
     {
         self.step_scripts(unlocking_of(context), locking_of(context))
     }
@@ -83,7 +84,7 @@ impl Machine {
     /// The outcome of the spend of the context's active input, from its beginning.
     pub fn spend(&mut self, context: &Context, verdicts: &Verdicts) -> MachineOutcome
         ensures value { result ≡ spend_outcome context.now verdicts.now }
-        ensures ended { course_from context.now verdicts.now self.new ≡ Stops result }
+        ensures ended { IsAtEnd result self.new }
     {
         self.begin();
         'steps: loop {
@@ -96,10 +97,11 @@ impl Machine {
 
     /// Passes one instruction of the spend by these scripts, or answers its end.
     fn step_scripts(&mut self, unlocking: &[u8], locking: &[u8]) -> Step
-        requires unlocking { length unlocking.now ≤ 20000 }
-        requires locking { length locking.now ≤ 20000 }
-        ensures { Goes (scripts_from unlocking.now locking.now self.old) result
+        requires unlocking { length unlocking.now ≤ LONGEST_BYTECODE }
+        requires locking { length locking.now ≤ LONGEST_BYTECODE }
+        ensures goes { Goes (scripts_from unlocking.now locking.now self.old) result
             (scripts_from unlocking.now locking.now self.new) (stack_of self.new) }
+        ensures stays { StaysAtEnd result self.new }
     {
         'phases: loop {
             if let Some(step) = self.advance(unlocking, locking) {
@@ -110,10 +112,11 @@ impl Machine {
 
     /// Passes one instruction, answers the end, or goes to a later phase.
     fn advance(&mut self, unlocking: &[u8], locking: &[u8]) -> Option<Step>
-        requires unlocking { length unlocking.now ≤ 20000 }
-        requires locking { length locking.now ≤ 20000 }
+        requires unlocking { length unlocking.now ≤ LONGEST_BYTECODE }
+        requires locking { length locking.now ≤ LONGEST_BYTECODE }
         ensures step { IfSome result (λ step. Goes (scripts_from unlocking.now locking.now self.old) step
             (scripts_from unlocking.now locking.now self.new) (stack_of self.new)) }
+        ensures stays { IfSome result (λ step. StaysAtEnd step self.new) }
         ensures same { IfNone result
             (scripts_from unlocking.now locking.now self.new ≡ scripts_from unlocking.now locking.now self.old) }
         ensures later { IfNone result (rank self.new.phase < rank self.old.phase) }
@@ -131,10 +134,11 @@ impl Machine {
     /// Passes one instruction of the script that is run, or goes to a later phase.
     fn pass(&mut self, which: Which, unlocking: &[u8], locking: &[u8]) -> Option<Step>
         requires phase { self.old.phase ≡ Running which }
-        requires unlocking { length unlocking.now ≤ 20000 }
-        requires locking { length locking.now ≤ 20000 }
+        requires unlocking { length unlocking.now ≤ LONGEST_BYTECODE }
+        requires locking { length locking.now ≤ LONGEST_BYTECODE }
         ensures step { IfSome result (λ step. Goes (scripts_from unlocking.now locking.now self.old) step
             (scripts_from unlocking.now locking.now self.new) (stack_of self.new)) }
+        ensures stays { IfSome result (λ step. StaysAtEnd step self.new) }
         ensures same { IfNone result
             (scripts_from unlocking.now locking.now self.new ≡ scripts_from unlocking.now locking.now self.old) }
         ensures later { IfNone result (rank self.new.phase < rank self.old.phase) }
@@ -162,10 +166,10 @@ impl Machine {
         }
     }
 
-    /// Goes on behind the last instruction of a script.
+    /// Goes on after the last instruction of a script.
     fn close(&mut self, which: Which, unlocking: &[u8], locking: &[u8])
-        requires unlocking { length unlocking.now ≤ 20000 }
-        requires locking { length locking.now ≤ 20000 }
+        requires unlocking { length unlocking.now ≤ LONGEST_BYTECODE }
+        requires locking { length locking.now ≤ LONGEST_BYTECODE }
         ensures course { scripts_from unlocking.now locking.now self.new
             ≡ closed_course which unlocking.now locking.now (state_at self.old.position) }
         ensures later { rank self.new.phase < rank (Running which) }
@@ -190,7 +194,7 @@ impl Machine {
 
     /// Begins the unlocking script, where it is pushes alone.
     fn open_unlocking(&mut self, unlocking: &[u8], locking: &[u8])
-        requires { length unlocking.now ≤ 20000 }
+        requires { length unlocking.now ≤ LONGEST_BYTECODE }
         ensures course { scripts_from unlocking.now locking.now self.new ≡ scripts_course unlocking.now locking.now }
         ensures later { rank self.new.phase < 4 }
     {
@@ -207,7 +211,7 @@ impl Machine {
     /// Begins the locking script on the stack that is there.
     fn open_locking(&mut self, unlocking: &[u8], locking: &[u8])
         ensures course { scripts_from unlocking.now locking.now self.new
-            ≡ behind_unlocking unlocking.now locking.now (state_at self.old.position) }
+            ≡ after_unlocking unlocking.now locking.now (state_at self.old.position) }
         ensures later { rank self.new.phase < 3 }
     {
         if locking.len() > LONGEST_SCRIPT {
@@ -218,11 +222,11 @@ impl Machine {
         }
     }
 
-    /// Decides behind the locking script, or begins the redeem script.
+    /// Decides after the locking script, or begins the redeem script.
     fn close_locking(&mut self, unlocking: &[u8], locking: &[u8])
-        requires { length unlocking.now ≤ 20000 }
+        requires { length unlocking.now ≤ LONGEST_BYTECODE }
         ensures course { scripts_from unlocking.now locking.now self.new
-            ≡ behind_locking unlocking.now locking.now (state_at self.old.position) }
+            ≡ after_locking unlocking.now locking.now (state_at self.old.position) }
         ensures later { rank self.new.phase < 2 }
     {
         if let Err(outcome) = self.run.check_top(Which::Locking, false_cause(locking)) {
@@ -237,7 +241,7 @@ impl Machine {
 
     /// Takes the stack of the unlocking script again, and begins its top, the redeem script, on the rest.
     fn open_redeem(&mut self, last: u32, unlocking: &[u8], locking: &[u8])
-        requires { length unlocking.now ≤ 20000 }
+        requires { length unlocking.now ≤ LONGEST_BYTECODE }
         ensures course { scripts_from unlocking.now locking.now self.new ≡ redeemed last (stack_left unlocking.now) }
         ensures later { rank self.new.phase < 2 }
     {
@@ -251,10 +255,10 @@ impl Machine {
         }
     }
 
-    /// Decides behind the redeem script.
+    /// Decides after the redeem script.
     fn close_redeem(&mut self)
         ensures course { (unlocking locking : List ℕ) → scripts_from unlocking locking self.new
-            ≡ behind_redeem (state_at self.old.position) }
+            ≡ after_redeem (state_at self.old.position) }
         ensures later { rank self.new.phase < 1 }
     {
         if let Err(outcome) = self.run.check_top(Which::Redeem, MachineCause::EndFalse) {
@@ -276,7 +280,7 @@ fn script_of<'a>(which: Which, unlocking: &'a [u8], locking: &'a [u8], redeem: &
     }
 }
 
-/// The cause of a false top behind a locking script.
+/// The cause of a false top after a locking script.
 fn false_cause(locking: &[u8]) -> MachineCause
     ensures { result ≡ Spend.false_cause locking.now }
 {
@@ -289,7 +293,7 @@ fn false_cause(locking: &[u8]) -> MachineCause
 
 /// That an unlocking script is pushes alone, or the refusal of its first instruction that is no push.
 fn check_pushes(unlocking: &[u8]) -> Result<(), MachineOutcome>
-    requires { length unlocking.now ≤ 20000 }
+    requires { length unlocking.now ≤ LONGEST_BYTECODE }
     ensures ok { OnOk result (push_check 0 (reading unlocking.now) ≡ Gives tt) }
     ensures err { IfErr result (λ outcome. push_check 0 (reading unlocking.now) ≡ Stops outcome) }
 {
@@ -316,24 +320,24 @@ fn check_pushes(unlocking: &[u8]) -> Result<(), MachineOutcome>
 }
 
 /// The unlocking bytecode of the input that is spent.
+#[tactic(auto, using(crate::proofs::Spent::unlocking_is))]
 fn unlocking_of(context: &Context) -> &[u8]
     ensures value { result.now ≡ (spent_input context.now).unlocking }
-    ensures bound { length result.now ≤ 20000 }
+    ensures bound { length result.now ≤ LONGEST_BYTECODE }
 {
-    let input: &ContextInput = &context.inputs()[context.active() as usize];
-    input.unlocking.as_slice()
+    context.spent_input().unlocking.as_slice()
 }
 
 /// The locking bytecode of the input that is spent.
+#[tactic(auto, using(crate::proofs::Spent::locking_is))]
 fn locking_of(context: &Context) -> &[u8]
     ensures value { result.now ≡ (spent_input context.now).locking }
-    ensures bound { length result.now ≤ 20000 }
+    ensures bound { length result.now ≤ LONGEST_BYTECODE }
 {
-    let input: &ContextInput = &context.inputs()[context.active() as usize];
-    input.locking.as_slice()
+    context.spent_input().locking.as_slice()
 }
 
-/// Instructions that stand one behind the other run as the first and then the second.
+/// Instructions that stand one after the other run as the first and then the second.
 pub fn runs_in_turn()
     ensures { (first second : List Instr) → RunsInTurn first second }
 {}

@@ -15,7 +15,7 @@ use script_codec::{Instr, Opcode};
 use std::alloc::Global;
 use std::marker::Model;
 
-/// The most elements on both stacks behind an instruction.
+/// The most elements on both stacks after an instruction.
 const MOST_ELEMENTS: usize = 1000;
 
 const IF: u8 = 0x63;
@@ -111,7 +111,7 @@ impl Room {
         are_all_true(self.conditions.as_slice())
     }
 
-    /// Does one instruction, and refuses more than 1,000 elements behind it. A refusal leaves nothing.
+    /// Does one instruction, and refuses more than 1,000 elements after it. A refusal leaves nothing.
     pub fn exec_limited(&mut self, instr: &Instr) -> Result<(), MachineCause>
         requires elements { Board.height self.old ≤ 1000 }
         requires conditions { length self.old.conditions ≤ 201 }

@@ -18,6 +18,7 @@ use cash_base::{Element, MAX_ELEMENT_LEN, MachineCause, Memory, truth};
 use script_codec::{RawInstr, next_instr, weight};
 use std::alloc::Global;
 use std::marker::Model;
+use tx_context::LONGEST_BYTECODE;
 
 /// The most bytes that are pushed at once.
 const LONGEST_PUSH: u32 = MAX_ELEMENT_LEN as u32;
@@ -155,7 +156,7 @@ impl Run {
 
     /// Takes the stack that an unlocking script leaves.
     pub fn unlock(&mut self, unlocking: &[u8])
-        requires { length unlocking.now ≤ 20000 }
+        requires { length unlocking.now ≤ LONGEST_BYTECODE }
         ensures { (state_at self.new).board.stack ≡ stack_left unlocking.now }
     {
         self.begin();
@@ -183,7 +184,7 @@ impl Run {
 
     /// Passes the next instruction of a script, if there is one, and tells whether it was executed.
     pub fn pass(&mut self, script: &[u8]) -> Result<Option<bool>, MachineCause>
-        requires { length script.now ≤ 20000 }
+        requires { length script.now ≤ LONGEST_BYTECODE }
         ensures { (which : Which) → IsPassed which script.now self.old result self.new }
     {
         if self.place >= script.len() {
@@ -196,12 +197,12 @@ impl Run {
         }
     }
 
-    /// Passes an instruction, behind which the next begins at a place.
+    /// Passes an instruction, after which the next begins at a place.
     fn pass_raw(&mut self, script: &[u8], raw: &RawInstr, next: usize) -> Result<bool, MachineCause>
         requires ordered { raw.now.from ≤ raw.now.to }
         requires inside { raw.now.to ≤ length script.now }
-        requires behind { self.old.place < next }
-        requires size { next ≤ 20000 }
+        requires after { self.old.place < next }
+        requires size { next ≤ LONGEST_BYTECODE }
         ensures ok { OnOk result (raw_after (raw_in script.now raw.now) self.old.counted ≡ Ok self.new.counted) }
         ensures executed { IfOk result (λ executed.
             executed ≡ is_executed (instruction (raw_in script.now raw.now)) (state_at self.old).board.conditions) }

@@ -4,7 +4,7 @@
 ghost use Rattle.std.specs.Prelude.{◌≡◌, ◌≤◌, ◌+◌, cond, length};
 ghost use Rattle.span_map.specs.Places.{place_of};
 ghost use Rattle.span_map.specs.Lines;
-ghost use Rattle.span_map.specs.Lines.{is_feed, line_behind, column_behind};
+ghost use Rattle.span_map.specs.Lines.{is_feed, line_after, column_after};
 
 use cash_base::{Cause, MachineCause, Span};
 
@@ -44,17 +44,17 @@ pub fn line_col_of(source: &[u8], at: u32) -> (u32, u32)
     ensures { result ≡ Lines.line_col source.now at }
 {
     let before = source.get(..at as usize).unwrap_or(source);
-    (line_behind(before), column_behind(before))
+    (line_after(before), column_after(before))
 }
 
-fn line_behind(text: &[u8]) -> u32
+fn line_after(text: &[u8]) -> u32
     requires { length text.now ≤ 2147483647 }
-    ensures { result ≡ line_behind text.now }
+    ensures { result ≡ line_after text.now }
 {
     text.iter().filter(|byte| **byte == b'\n').count() as u32 + 1
 }
 
-/// The column behind one more byte.
+/// The column after one more byte.
 fn next_column(byte: u8, column: u32) -> u32
     requires { column ≤ 2147483648 }
     ensures value { result ≡ cond (is_feed byte) 1 (column + 1) }
@@ -64,9 +64,9 @@ fn next_column(byte: u8, column: u32) -> u32
 }
 
 #[tactic(auto, using(crate::proofs::Columns::column_step, crate::proofs::Columns::column_start))]
-fn column_behind(text: &[u8]) -> u32
+fn column_after(text: &[u8]) -> u32
     requires { length text.now ≤ 2147483647 }
-    ensures { result ≡ column_behind text.now }
+    ensures { result ≡ column_after text.now }
 {
     let mut column = 1;
     for byte in text {

@@ -6,6 +6,7 @@ use Rattle.std.proofs.lemmas.Bool.{eqb-true, leb-true}
 use Rattle.cash_base.specs.Failing.{◌>>=◌}
 use Rattle.unlocker.specs.declared.BuildFault.{BuildFault}
 use Rattle.unlocker.specs.declared.BuildFault.TheVariants.{WrongCount, RedeemTooLong}
+use Rattle.tx_context.specs.declared.frame.TheConstants.{LONGEST_BYTECODE}
 use Rattle.artifact_json.specs.Artifact.{Artifact, AbiCall, HasFewInputs}
 use Rattle.unlocker.specs.Building.{capped, chosen_function, count_check, built_unlocking}
 use Rattle.spend_debug.specs.declared.spends.SpendStop.{SpendStop}
@@ -18,7 +19,7 @@ Scripts = List ℕ × List ℕ
 abbrev counted : Result (Unit {0}) BuildFault
 counted = Ok tt
 
--- the redeem script is built, and what comes behind it
+-- the redeem script is built, and what comes after it
 by_redeem : (t u : Bool) (s : List ℕ) (miscounted long : BuildFault) (then_ : List ℕ → Result Scripts SpendStop) (built : Scripts)
     → (or_stop (cond t counted (Err miscounted) >>= λ c. cond u (Ok s) (Err long)) >>= then_) ≡ Ok built
     → (t ≡ true) × (u ≡ true) × (then_ s ≡ Ok built)
@@ -80,8 +81,9 @@ few_found (f ∷ functions) (suc k) function all is = few_found functions k func
 -- they are of few elements
 pub scripts_small : (program : Artifact) (spend : SpendParts) (redeem unlocking : List ℕ) → HasFewInputs program
     → built_scripts program spend ≡ Ok (redeem, unlocking)
-    → length unlocking ≤ 523 * (length spend.args + 2) → length unlocking ≤ 20000
+    → length unlocking ≤ 523 * (length spend.args + 2) → length unlocking ≤ LONGEST_BYTECODE
 scripts_small program spend redeem unlocking few is size =
     let call = of_call program spend redeem unlocking is in
     let most = few_found program.abi spend.chosen call.function few call.found in
-    omega (arith, most, call.arg_count, size)
+    let small : length unlocking ≤ 20000 = omega (arith, most, call.arg_count, size) in
+    small

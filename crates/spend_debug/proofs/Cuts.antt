@@ -3,7 +3,7 @@ use Rattle.std.proofs.Common.{◌≡◌, ℕ, suc, ◌+◌, ◌<◌, ◌==◌, B
 use Rattle.std.specs.List.{position_from}
 use Rattle.std.specs.Prelude.{IfSome}
 use Rattle.cash_base.specs.Failing.{◌>>=◌}
-use Rattle.spend_debug.specs.SpendLines.{Line, lines, in_front, line_element, elements_of, behind}
+use Rattle.spend_debug.specs.SpendLines.{Line, lines, in_front, line_element, elements_of, after}
 use Rattle.spend_debug.specs.declared.spend_lines.LineFault.{LineFault}
 
 abbrev pub is_line_feed : ℕ → Bool
@@ -37,11 +37,11 @@ cut_step false byte bytes i at later found =
     let is_cut = later found in
     let is : at ≡ (i + 1) + is_cut.k = is_cut.is in
     let within : is_cut.k < length bytes = is_cut.within in
-    let behind_it : suc (is_cut.k + 1) ≡ suc is_cut.k + 1 = omega arith in
+    let after_it : suc (is_cut.k + 1) ≡ suc is_cut.k + 1 = omega arith in
     let cut : in_front byte (lines bytes)
     ≡ whole (byte ∷ take is_cut.k bytes) ∷ lines (drop (suc is_cut.k + 1) (byte ∷ bytes)) =
     ap (in_front byte) is_cut.cut
-    ∙ ap (λ (n : ℕ). whole (byte ∷ take is_cut.k bytes) ∷ lines (drop n (byte ∷ bytes))) behind_it in
+    ∙ ap (λ (n : ℕ). whole (byte ∷ take is_cut.k bytes) ∷ lines (drop n (byte ∷ bytes))) after_it in
     record { k = suc is_cut.k; is = omega arith; within = omega arith; cut = cut }
 
 cut_at : (bytes : List ℕ) (i at : ℕ) → position_from is_line_feed i bytes ≡ Some at → IsCut bytes (lines bytes) i at
@@ -94,13 +94,13 @@ first_open (byte ∷ bytes) some found = open_lines byte bytes 0 found
 -- ---- the elements of lines, one by one
 
 in_turn : (front : List (List ℕ)) (e : List ℕ) (read : Result (List (List ℕ)) LineFault)
-    → behind front (read >>= λ elements. Ok (e ∷ elements)) ≡ behind (front ++ e ∷ []) read
+    → after front (read >>= λ elements. Ok (e ∷ elements)) ≡ after (front ++ e ∷ []) read
 in_turn front e (Ok elements) = ap (λ (all : List (List ℕ)). Ok all) (sym (append_assoc front (e ∷ []) elements))
 in_turn front e (Err fault) = refl
 
-pub behind_nothing : (read : Result (List (List ℕ)) LineFault) → behind [] read ≡ read
-behind_nothing (Ok elements) = refl
-behind_nothing (Err fault) = refl
+pub after_nothing : (read : Result (List (List ℕ)) LineFault) → after [] read ≡ read
+after_nothing (Ok elements) = refl
+after_nothing (Err fault) = refl
 
 abbrev with_further : List Line → Result (List ℕ) LineFault → Result (List (List ℕ)) LineFault
 with_further further read = read >>= λ element. elements_of further >>= λ elements. Ok (element ∷ elements)
@@ -108,10 +108,10 @@ with_further further read = read >>= λ element. elements_of further >>= λ elem
 -- a line is read, and then the further ones
 pub line_read : (front : List (List ℕ)) (all : List Line) (line : Line) (further : List Line) (e : List ℕ)
     → all ≡ line ∷ further
-    → line_element line ≡ Ok e → behind front (elements_of all) ≡ behind (front ++ e ∷ []) (elements_of further)
+    → line_element line ≡ Ok e → after front (elements_of all) ≡ after (front ++ e ∷ []) (elements_of further)
 line_read front all line further e is read =
-    ap (λ (ls : List Line). behind front (elements_of ls)) is
-    ∙ ap (λ (r : Result (List ℕ) LineFault). behind front (with_further further r)) read
+    ap (λ (ls : List Line). after front (elements_of ls)) is
+    ∙ ap (λ (r : Result (List ℕ) LineFault). after front (with_further further r)) read
     ∙ in_turn front e (elements_of further)
 
 -- the first line is refused

@@ -8,7 +8,7 @@ use Rattle.bch_vm.specs.declared.outcome.MachineOutcome.{MachineOutcome}
 use Rattle.bch_vm.specs.declared.outcome.MachineOutcome.TheVariants.{Refused}
 use Rattle.span_map.specs.declared.SpanRow.{SpanRow}
 use Rattle.span_map.specs.Lines.{line_col}
-use Rattle.span_map.specs.Places.{place_behind}
+use Rattle.span_map.specs.Places.{place_after}
 use Rattle.std.specs.Prelude.{codes}
 use Rattle.std.specs.Fmt.{decimal}
 use Rattle.artifact_json.specs.Artifact.{Artifact}
@@ -18,7 +18,7 @@ use Rattle.spend_debug.specs.SpendDebug.{SpendParts, known_place, told_of, outco
 -- the place that is told is that of the program's row
 place_told : (program : Artifact) (spend : SpendParts) (rows : List SpanRow) (at : ℕ) (cause : MachineCause) (span : Span)
     → program.spans ≡ Some rows → outcome_of program spend ≡ Refused Redeem at cause
-    → place_behind rows (length spend.ctor) at cause ≡ Some span → (told_of program spend).place ≡ Some span
+    → place_after rows (length spend.ctor) at cause ≡ Some span → (told_of program spend).place ≡ Some span
 place_told program spend rows at cause span known is placed =
     ap (λ (r : Option (List SpanRow)). known_place r (length spend.ctor) (outcome_of program spend)) known
     ∙ ap (λ (o : MachineOutcome). known_place (Some rows) (length spend.ctor) o) is ∙ placed
@@ -32,7 +32,7 @@ told_refusal place cause fault at same =
 pub told_failure : (program : Artifact) (spend : SpendParts) (rows : List SpanRow) (at : ℕ) (cause : MachineCause) (span : Span)
     (fault : Cause) (source : List ℕ)
     → program.spans ≡ Some rows → outcome_of program spend ≡ Refused Redeem at cause
-    → place_behind rows (length spend.ctor) at cause ≡ Some span → placed_name cause ≡ cause_name fault
+    → place_after rows (length spend.ctor) at cause ≡ Some span → placed_name cause ≡ cause_name fault
     → verdict_line (told_of program spend).outcome (told_place source (told_of program spend).place)
     ≡ failure_line (line_col source span.from) fault at
 told_failure program spend rows at cause span fault source known is placed same =

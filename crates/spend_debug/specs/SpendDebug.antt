@@ -1,8 +1,8 @@
 -- What a spend of a compiled contract comes to: its scripts, the machine's outcome, and the place of a failure.
-use Rattle.std.specs.Prelude.{◌≡◌, ℕ, ◌≤◌, List, [], ◌∷◌, length, slice_get, replicate, Option, Some, None, Result, Ok, Err}
+use Rattle.std.specs.Prelude.{◌≡◌, ℕ, ◌≤◌, List, [], ◌∷◌, length, slice_get, Option, Some, None, Result, Ok, Err}
 use Rattle.cash_base.specs.declared.place.Span.{Span}
 use Rattle.cash_base.specs.Failing.{◌>>=◌}
-use Rattle.tx_context.specs.Transaction.{input_parts, transaction, Transaction, Locking}
+use Rattle.tx_context.specs.Transaction.{plain_input, transaction, Transaction, Locking}
 use Rattle.tx_context.specs.World.{filled_context}
 use Rattle.tx_context.specs.Table.{Row}
 use Rattle.bch_vm.specs.declared.outcome.Which.TheVariants.{Redeem}
@@ -11,7 +11,7 @@ use Rattle.bch_vm.specs.declared.outcome.MachineOutcome.TheVariants.{Refused}
 use Rattle.bch_vm.specs.Law.{locking_script}
 use Rattle.bch_vm.specs.Spend.{spend_outcome}
 use Rattle.span_map.specs.declared.SpanRow.{SpanRow}
-use Rattle.span_map.specs.Places.{place_behind}
+use Rattle.span_map.specs.Places.{place_after}
 use Rattle.artifact_json.specs.Artifact.{Artifact, AbiCall}
 use Rattle.unlocker.specs.declared.BuildFault.{BuildFault}
 use Rattle.unlocker.specs.declared.BuildFault.TheVariants as faults
@@ -32,7 +32,7 @@ pub record SpendParts : Type 0 where
 
 -- the transaction of a spend for which none is given: version 2, one input of zeros and empty bytecodes, no output
 abbrev pub plain_frame : Transaction Locking
-plain_frame = transaction 2 0 (input_parts (replicate 32 0) 0 0 0 (Some []) [] ∷ []) [] 0
+plain_frame = transaction 2 0 (plain_input 0 (Some []) [] ∷ []) [] 0
 
 -- ---- why there are no scripts
 
@@ -54,9 +54,9 @@ built_scripts program spend = do
 
 -- ---- what is told
 
--- the place of the row of a refusal in the redeem script, behind so many pushes of the constructor, where rows are known
+-- the place of the row of a refusal in the redeem script, after so many pushes of the constructor, where rows are known
 abbrev pub known_place : Option (List SpanRow) → ℕ → MachineOutcome → Option Span
-known_place (Some rows) before (Refused Redeem at cause) = place_behind rows before at cause
+known_place (Some rows) before (Refused Redeem at cause) = place_after rows before at cause
 known_place rows before outcome = None
 
 -- how the machine ends on the scripts of a spend, in its transaction and by its table of verdicts

@@ -19,7 +19,7 @@ abbrev pub in_front : ℕ → List Line → List Line
 in_front byte [] = record { text = byte ∷ []; ended = false } ∷ []
 in_front byte (line ∷ further) = record { text = byte ∷ line.text; ended = line.ended } ∷ further
 
--- Each line feed ends a line. Bytes behind the last line feed, where there are any, are a line that isn't ended.
+-- Each line feed ends a line. Bytes after the last line feed, where there are any, are a line that isn't ended.
 abbrev pub lines : List ℕ → List Line
 lines [] = []
 lines (byte ∷ bytes) =
@@ -56,7 +56,7 @@ abbrev pub spend_elements : List ℕ → Result (List (List ℕ)) LineFault
 spend_elements bytes = if nat_lt 16 (length (lines bytes)) then Err TooMany else elements_of (lines bytes)
 
 -- some elements with others in front
-abbrev pub behind : List (List ℕ) → Result (List (List ℕ)) LineFault → Result (List (List ℕ)) LineFault
-behind front read = do
+abbrev pub after : List (List ℕ) → Result (List (List ℕ)) LineFault → Result (List (List ℕ)) LineFault
+after front read = do
   elements ← read
   Ok (front ++ elements)

@@ -8,10 +8,3 @@ pub mod spends;
 
 pub use report::{InputStop, Report, build_stop, input_text, line_stop, report_text};
 pub use spends::{Spend, SpendStop, debug, plain_frame};
-
-#[cfg(test)]
-mod line_tests;
-#[cfg(test)]
-mod report_tests;
-#[cfg(test)]
-mod tests;

@@ -5,7 +5,7 @@ ghost use Rattle.std.specs.List.{AllByRecursion, position_from};
 ghost use Rattle.std.specs.Str.{bytes_eq};
 ghost use Rattle.cash_base.specs.Element.{IsElement};
 ghost use Rattle.spend_debug.specs.declared.spend_lines.LineFault.TheVariants as faults;
-ghost use Rattle.spend_debug.specs.SpendLines.{lines, line_element, elements_of, spend_elements, behind};
+ghost use Rattle.spend_debug.specs.SpendLines.{lines, line_element, elements_of, spend_elements, after};
 
 use cash_base::element::copy_of;
 use cash_base::{Element, MAX_ELEMENT_LEN};
@@ -49,7 +49,7 @@ impl<T: Drop> From<AllocFailed<T>> for LineFault {
     }
 }
 
-/// The first line of a file, whether a line feed ends it, and what stands behind.
+/// The first line of a file, whether a line feed ends it, and what stands after.
 #[derive(Drop)]
 struct FirstLine<'a> {
     text: &'a [u8],
@@ -60,10 +60,10 @@ struct FirstLine<'a> {
 /// The arguments that a file has, a line each, in their order.
 ///
 /// A line is `-` for the empty element, or an even, positive number of hexadecimal digits in either case, and a line
-/// feed ends it. `TooMany` comes exactly where there are more than 16 lines, bytes behind the last line feed counting as
+/// feed ends it. `TooMany` comes exactly where there are more than 16 lines, bytes after the last line feed counting as
 /// one. Else the first line that is refused tells the fault: `BadHex` where it is neither, or has no line feed, and
 /// `Range` where its digits spell more than 520 bytes. Memory may be wanting at any time.
-#[tactic(auto, using(crate::proofs::Cuts::behind_nothing))]
+#[tactic(auto, using(crate::proofs::Cuts::after_nothing))]
 pub fn read(alloc: Global, bytes: &[u8]) -> Result<Vec<Element>, LineFault>
     ensures read { IfOk result (λ elements. spend_elements bytes.now ≡ Ok (map (λ e. e.items) elements.items)) }
     ensures refused { IfErr result (λ fault. (fault ≡ faults.Memory) ⊎ (spend_elements bytes.now ≡ Err fault)) }
@@ -90,7 +90,7 @@ fn has_more_lines(bytes: &[u8], most: u32) -> bool
     }
 }
 
-/// The elements of some lines, at most so many, behind those that are given.
+/// The elements of some lines, at most so many, after those that are given.
 #[tactic(auto, using(crate::proofs::Cuts::line_read, crate::proofs::Cuts::line_refused, crate::proofs::Cuts::later_refused))]
 fn read_lines(
     alloc: Global,
@@ -99,7 +99,7 @@ fn read_lines(
     mut elements: Vec<Element>,
 ) -> Result<Vec<Element>, LineFault>
     requires { length (lines bytes.now) ≤ most }
-    ensures read { IfOk result (λ all. behind (map (λ e. e.items) elements.items) (elements_of (lines bytes.now))
+    ensures read { IfOk result (λ all. after (map (λ e. e.items) elements.items) (elements_of (lines bytes.now))
         ≡ Ok (map (λ e. e.items) all.items)) }
     ensures refused { IfErr result (λ fault. (fault ≡ faults.Memory) ⊎ (elements_of (lines bytes.now) ≡ Err fault)) }
 {

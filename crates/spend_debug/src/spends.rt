@@ -8,7 +8,7 @@ ghost use Rattle.bch_vm.specs.declared.outcome.Which.TheVariants.{Redeem};
 ghost use Rattle.bch_vm.specs.declared.outcome.MachineOutcome.TheVariants.{Refused};
 ghost use Rattle.span_map.specs.declared.SpanRow.{SpanRow};
 ghost use Rattle.span_map.specs.Lines.{line_col};
-ghost use Rattle.span_map.specs.Places.{place_behind};
+ghost use Rattle.span_map.specs.Places.{place_after};
 ghost use Rattle.artifact_json.specs.Artifact.{Artifact, HasFewInputs};
 ghost use Rattle.spend_debug.specs.declared.spends.SpendStop.TheVariants as stops;
 ghost use Rattle.spend_debug.specs.SpendDebug;
@@ -23,7 +23,7 @@ use span_map::{SpanRow, place};
 use std::alloc::Global;
 use std::marker::Model;
 use thiserror::Error;
-use tx_context::{Bytecode, Frame, Input, Verdicts, fill};
+use tx_context::{Bytecode, Frame, LONGEST_BYTECODE, Verdicts, fill, plain_input};
 use unlocker::{BuildFault, locking, redeem, unlocking};
 
 /// What a contract is spent with: elements for the constructor, a function by its index from 0, elements for its
@@ -88,14 +88,8 @@ pub fn plain_frame(alloc: Global) -> Result<Frame, Memory>
     ensures { IfOk result (λ frame. frame ≡ SpendDebug.plain_frame) }
 {
     let mut inputs = Vec::new(alloc);
-    inputs.push(Input {
-        hash: [0; 32],
-        index: 0,
-        sequence: 0,
-        value: 0,
-        locking: Bytecode::Given(Vec::new(alloc)),
-        unlocking: Vec::new(alloc),
-    })?;
+    let locking = Bytecode::Given(Vec::new(alloc));
+    inputs.push(plain_input(0, locking, Vec::new(alloc)))?;
     match Frame::new(2, 0, inputs, Vec::new(alloc), 0) {
         Ok(frame) => Ok(frame),
         Err(_) => unreachable!(),
@@ -139,7 +133,7 @@ pub fn told_as_a_failure()
         (fault : Cause) (source : List ℕ)
         → program.spans ≡ Some rows
         → outcome_of program spend ≡ Refused Redeem at cause
-        → place_behind rows (length spend.ctor) at cause ≡ Some span
+        → place_after rows (length spend.ctor) at cause ≡ Some span
         → placed_name cause ≡ cause_name fault
         → verdict_line (told_of program spend).outcome (told_place source (told_of program spend).place)
         ≡ failure_line (line_col source span.from) fault at }
@@ -159,7 +153,7 @@ fn scripts_of(alloc: Global, program: &Program, spend: &Spend) -> Result<Scripts
         built_scripts program.now spend.now ≡ Ok (scripts.redeem.items, scripts.unlocking.items)) }
     ensures told { IfOk result (λ scripts.
         told_with program.now spend.now scripts.redeem.items scripts.unlocking.items ≡ told_of program.now spend.now) }
-    ensures size { IfOk result (λ scripts. length scripts.unlocking.items ≤ 20000) }
+    ensures size { IfOk result (λ scripts. length scripts.unlocking.items ≤ LONGEST_BYTECODE) }
     ensures stopped { IfErr result (λ stop. (stop ≡ stops.Memory) ⊎ (built_scripts program.now spend.now ≡ Err stop)) }
 {
     let redeem = redeem(alloc, program, spend.ctor.as_slice())?;
@@ -181,7 +175,7 @@ fn judge(
     scripts: Scripts,
     machine: &mut Machine,
 ) -> Result<Report, Memory>
-    requires { length scripts.unlocking.items ≤ 20000 }
+    requires { length scripts.unlocking.items ≤ LONGEST_BYTECODE }
     ensures report { IfOk result (λ report.
         report ≡ told_with program.now spend.now scripts.redeem.items scripts.unlocking.items) }
     ensures lent { IfErr result (λ stop. machine.new ≡ machine.old) }
@@ -199,7 +193,7 @@ fn judge(
     })
 }
 
-/// The place of a refusal in the redeem script, behind so many pushes of the constructor, where the rows are known.
+/// The place of a refusal in the redeem script, after so many pushes of the constructor, where the rows are known.
 fn known_place(spans: &Option<Vec<SpanRow>>, before: usize, outcome: MachineOutcome) -> Option<Span>
     ensures { result ≡ SpendDebug.known_place (option_map (λ rows. rows.items) spans.now) before outcome }
 {

@@ -203,6 +203,3 @@ fn pushes(alloc: Global, elements: &[Element]) -> Result<Vec<Instr>, Memory>
     }
     Ok(code)
 }
-
-#[cfg(test)]
-mod tests;
