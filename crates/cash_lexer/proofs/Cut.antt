@@ -21,16 +21,16 @@ found_token token = Ok token
 
 -- ---- the next token
 
--- what a place and a token behind a gap are to a place before the gap
+-- what a place and a token after a gap are to a place before the gap
 pub record Next (at : ℕ) (text : List ℕ) (token : Token) (more : List Find) : Type 0 where
-  pub behind : at ≤ token.span.from
+  pub after : at ≤ token.span.from
   pub some : token.span.from < token.span.to
   pub inside : token.span.to ≤ at + length text
   pub gap : IsGap (drop (token.span.from - at) text) (take (token.span.from - at) text)
   pub begins : piece_of (drop (token.span.from - at) text) ≡ Some (Known token.kind (token.span.to - token.span.from))
   pub rest : more ≡ finds token.span.to (drop (token.span.to - at) text)
 
--- behind some bytes
+-- after some bytes
 further_drop : (text : List ℕ) (at len to : ℕ) → at + len ≤ to → drop (to - (at + len)) (drop len text) ≡ drop (to - at) text
 further_drop text at len to far =
     let same : len + (to - (at + len)) ≡ to - at = omega arith in
@@ -48,20 +48,20 @@ further_take text at len to far =
     let same : len + (to - (at + len)) ≡ to - at = omega arith in
     taken_further (to - (at + len)) len text ∙ ap (λ n. take n text) same
 
-next_behind_gap : (at len : ℕ) (text : List ℕ) (token : Token) (more : List Find) → piece_of text ≡ Some (Gap len) → Next (at + len) (drop len text) token more → Next at text token more
-next_behind_gap at len text token more is h =
-    let behind = h.behind in
+next_after_gap : (at len : ℕ) (text : List ℕ) (token : Token) (more : List Find) → piece_of text ≡ Some (Gap len) → Next (at + len) (drop len text) token more → Next at text token more
+next_after_gap at len text token more is h =
+    let after = h.after in
     let some = h.some in
     let inside = h.inside in
     let fits = gap_len text len is in
     let later : at + len ≤ token.span.to = omega arith in
     record {
-      behind = omega arith;
+      after = omega arith;
       some = some;
       inside = omega (arith, length-drop len text, inside, fits);
-      gap = subst (λ (xs : List ℕ). IsGap xs (take (token.span.from - at) text)) (further_drop text at len token.span.from behind)
-          (subst (IsGap (drop (token.span.from - (at + len)) (drop len text))) (further_take text at len token.span.from behind) (gap_in_front text len (token.span.from - (at + len)) is h.gap));
-      begins = ap piece_of (sym (further_drop text at len token.span.from behind)) ∙ h.begins;
+      gap = subst (λ (xs : List ℕ). IsGap xs (take (token.span.from - at) text)) (further_drop text at len token.span.from after)
+          (subst (IsGap (drop (token.span.from - (at + len)) (drop len text))) (further_take text at len token.span.from after) (gap_in_front text len (token.span.from - (at + len)) is h.gap));
+      begins = ap piece_of (sym (further_drop text at len token.span.from after)) ∙ h.begins;
       rest = h.rest ∙ ap (finds token.span.to) (further_drop text at len token.span.to later);
     }
 
@@ -71,7 +71,7 @@ next_here at len kind text more is rest =
     let none : at - at ≡ 0 = omega arith in
     let same : at + len - at ≡ len = omega arith in
     record {
-      behind = omega arith;
+      after = omega arith;
       some = omega (arith, fits);
       inside = omega (arith, fits);
       gap = subst (λ n. IsGap (drop n text) (take n text)) (sym none) (IsGap.nothing text);
@@ -98,7 +98,7 @@ next_step : (n at : ℕ) (text : List ℕ) (token : Token) (more : List Find) (o
 next_step n at text token more None is short ih found = none_first (Next at text token more) (sym (none_here at text is) ∙ found)
 next_step n at text token more (Some (Gap len)) is short ih found =
     let fits = gap_len text len is in
-    next_behind_gap at len text token more is (ih (at + len) (drop len text) (omega (arith, length-drop len text, fits)) (sym (gap_here at text len is) ∙ found))
+    next_after_gap at len text token more is (ih (at + len) (drop len text) (omega (arith, length-drop len text, fits)) (sym (gap_here at text len is) ∙ found))
 next_step n at text token more (Some (Known kind len)) is short ih found =
     let both = sym (known_here at text kind len is) ∙ found in
     let token_is : token_at kind at len ≡ token = ok_same (first_same both) in
@@ -160,7 +160,7 @@ cut : (tokens : List Token) (at : ℕ) (text : List ℕ) → AreAll tokens (find
 cut [] at text is = end_found (length text) at text (omega arith) is
 cut (token ∷ tokens) at text is =
     let h = next at text token (map found_token tokens) is in
-    (record { behind = h.behind; some = h.some; inside = h.inside; gap = h.gap; begins = h.begins }, cut tokens token.span.to (drop (token.span.to - at) text) (sym h.rest))
+    (record { after = h.after; some = h.some; inside = h.inside; gap = h.gap; begins = h.begins }, cut tokens token.span.to (drop (token.span.to - at) text) (sym h.rest))
 
 pub lexed_cuts : (source : List ℕ) (tokens : List Token) → lexed source ≡ Ok tokens → IsCut 0 tokens source
 lexed_cuts source tokens is = cut tokens 0 source (all_are (finds 0 source) tokens is)
@@ -169,7 +169,7 @@ next_are : (tokens : List Token) (at : ℕ) (source : List ℕ) → AreAll token
 next_are [] at source is = ap first_of is
 next_are (token ∷ tokens) at source is =
     let h = next at (drop at source) token (map found_token tokens) is in
-    let behind = h.behind in
+    let after = h.after in
     let some = h.some in
     let same : at + (token.span.to - at) ≡ token.span.to = omega arith in
     let there : drop (token.span.to - at) (drop at source) ≡ drop token.span.to source = drop-drop (token.span.to - at) at source ∙ ap (λ n. drop n source) same in
@@ -185,12 +185,12 @@ first_ok [] token is = let none : None ≡ Some token = cc in absurd cc
 first_ok (Ok other ∷ more) token is = let same : other ≡ token = cc in (more, ap (λ (t : Token). found_token t ∷ more) same)
 first_ok (Err fault ∷ more) token is = absurd cc
 
--- the token that stands next ends behind its place, within the source
+-- the token that stands next ends after its place, within the source
 pub token_ends : (at : ℕ) (source : List ℕ) (token : Token) → at ≤ length source → first_found at (drop at source) ≡ Ok (Some token) → (at < token.span.to) × (token.span.to ≤ length source)
 token_ends at source token within is =
     let first = first_ok (finds at (drop at source)) token is in
     let h = next at (drop at source) token first.0 first.1 in
-    let behind = h.behind in
+    let after = h.after in
     let some = h.some in
     let inside = h.inside in
     (omega arith, omega (arith, length-drop at source))
@@ -199,13 +199,13 @@ with_one : (tokens : List Token) (token : Token) (r : Result (List Token) LexFau
 with_one tokens token (Ok rest) = ap Ok (sym (append_assoc tokens (token ∷ []) rest))
 with_one tokens token (Err fault) = refl
 
--- and those in front of it, with it, stand in front of those behind it
+-- and those in front of it, with it, stand in front of those after it
 pub one_more_token : (tokens : List Token) (at : ℕ) (source : List ℕ) (token : Token) (r : Result (List Token) LexFault) → first_found at (drop at source) ≡ Ok (Some token)
     → with_front tokens (all_of (finds at (drop at source))) ≡ r → with_front (tokens ++ token ∷ []) (all_of (finds token.span.to (drop token.span.to source))) ≡ r
 one_more_token tokens at source token r is whole =
     let first = first_ok (finds at (drop at source)) token is in
     let h = next at (drop at source) token first.0 first.1 in
-    let behind = h.behind in
+    let after = h.after in
     let some = h.some in
     let same : at + (token.span.to - at) ≡ token.span.to = omega arith in
     let there : drop (token.span.to - at) (drop at source) ≡ drop token.span.to source = drop-drop (token.span.to - at) at source ∙ ap (λ n. drop n source) same in

@@ -12,7 +12,7 @@ use Rattle.cash_lexer.specs.declared.piece.Piece.TheVariants.{Gap, Known, Flawed
 use Rattle.cash_lexer.specs.declared.piece.Flaw.TheVariants.{OddHex, BadCharacter}
 use Rattle.cash_lexer.specs.Gap.{is_blank, is_in_line, blank_len, line_len, closing_len, blanks, block_comment, comment}
 use Rattle.cash_lexer.specs.Numbers.{◌>>=◌, digits_len, hex_len, hex, version_len, version, number_piece, narrow, exponent_len, number_value, number}
-use Rattle.cash_lexer.specs.Dates.{is_quote, date_piece, date_behind, date}
+use Rattle.cash_lexer.specs.Dates.{is_quote, date_piece, date_after, date}
 use Rattle.cash_lexer.specs.Rows.{is_word_start, is_word_byte, string_len, string_piece, double_signs, single_signs, char_len, word, string, sign, bad_character, gap, literal, other, piece_of}
 use Rattle.cash_lexer.specs.Laws.{ends_line, IsGap}
 
@@ -26,7 +26,7 @@ and_right : (a b : Bool) → (a && b) ≡ true → b ≡ true
 and_right true b is = is
 and_right false b is = absurd cc
 
--- ---- the rows behind the gaps give none
+-- ---- the rows after the gaps give none
 
 abbrev NoGap : Option Piece → Type 0
 NoGap None = Unit {0}
@@ -69,7 +69,7 @@ no_gap_string None = tt
 no_gap_literal : (text : List ℕ) → NoGap (literal text)
 unfolding date hex version number
 no_gap_literal text =
-    no_gap_or (date text) _ (no_gap_if (starts_with nat_eq text (codes "date(")) _ None (no_gap_date (date_behind (drop 5 text))) tt)
+    no_gap_or (date text) _ (no_gap_if (starts_with nat_eq text (codes "date(")) _ None (no_gap_date (date_after (drop 5 text))) tt)
     (no_gap_or (hex text) _ (no_gap_if (starts_with nat_eq text (codes "0x") || starts_with nat_eq text (codes "0X")) (Some (if hex_len text % 2 == 0 then Known Hex (hex_len text) else Flawed OddHex (hex_len text))) None (no_gap_even (hex_len text % 2 == 0) (hex_len text)) tt)
     (no_gap_or (version text) (number text) (no_gap_version (version_len text)) (no_gap_numbers (ltb 0 (digits_len text)) (digits_len text + exponent_len (drop (digits_len text) text)) (narrow (number_value (take (digits_len text) text) (drop 1 (take (exponent_len (drop (digits_len text) text)) (drop (digits_len text) text))))))))
 
@@ -99,13 +99,13 @@ one_more n x xs = let e : 1 + n ≡ suc n = omega arith in ap (λ k. take k (x �
 one_less : (n : ℕ) (x : ℕ) (xs : List ℕ) → drop (1 + n) (x ∷ xs) ≡ drop n xs
 one_less n x xs = let e : 1 + n ≡ suc n = omega arith in ap (λ k. drop k (x ∷ xs)) e
 
-blank_step : (after : List ℕ) (t : Bool) (byte n : ℕ) (text rest : List ℕ) → is_blank byte ≡ t → IsGap after rest → IsGap after (take n text ++ rest) → IsGap after (take (cond t (1 + n) 0) (byte ∷ text) ++ rest)
-blank_step after true byte n text rest is h more = subst (λ (xs : List ℕ). IsGap after (xs ++ rest)) (sym (one_more n byte text)) (IsGap.blank after byte (take n text ++ rest) is more)
-blank_step after false byte n text rest is h more = h
+blank_step : (follow : List ℕ) (t : Bool) (byte n : ℕ) (text rest : List ℕ) → is_blank byte ≡ t → IsGap follow rest → IsGap follow (take n text ++ rest) → IsGap follow (take (cond t (1 + n) 0) (byte ∷ text) ++ rest)
+blank_step follow true byte n text rest is h more = subst (λ (xs : List ℕ). IsGap follow (xs ++ rest)) (sym (one_more n byte text)) (IsGap.blank follow byte (take n text ++ rest) is more)
+blank_step follow false byte n text rest is h more = h
 
-blanks_gap : (after text rest : List ℕ) → IsGap after rest → IsGap after (take (blank_len text) text ++ rest)
-blanks_gap after [] rest h = h
-blanks_gap after (byte ∷ text) rest h = blank_step after (is_blank byte) byte (blank_len text) text rest refl h (blanks_gap after text rest h)
+blanks_gap : (follow text rest : List ℕ) → IsGap follow rest → IsGap follow (take (blank_len text) text ++ rest)
+blanks_gap follow [] rest h = h
+blanks_gap follow (byte ∷ text) rest h = blank_step follow (is_blank byte) byte (blank_len text) text rest refl h (blanks_gap follow text rest h)
 
 -- ---- texts that begin with a sign
 
@@ -142,21 +142,21 @@ end_step : (t : Bool) (byte n : ℕ) (text : List ℕ) → is_in_line byte ≡ t
 end_step true byte n text is more = ap ends_line (one_less n byte text) ∙ more
 end_step false byte n text is more = not_not (byte == 10) is
 
-ends_behind : (text : List ℕ) → ends_line (drop (line_len text) text) ≡ true
-ends_behind [] = refl
-ends_behind (byte ∷ text) = end_step (is_in_line byte) byte (line_len text) text refl (ends_behind text)
+ends_after : (text : List ℕ) → ends_line (drop (line_len text) text) ≡ true
+ends_after [] = refl
+ends_after (byte ∷ text) = end_step (is_in_line byte) byte (line_len text) text refl (ends_after text)
 
 -- the comment with which a text begins, in front of some bytes that are a gap in front of the rest
-line_gap : (behind : List ℕ) (k : ℕ) → let text = 47 ∷ 47 ∷ behind in IsGap (drop k (drop (line_len text) text)) (take k (drop (line_len text) text))
+line_gap : (after : List ℕ) (k : ℕ) → let text = 47 ∷ 47 ∷ after in IsGap (drop k (drop (line_len text) text)) (take k (drop (line_len text) text))
     → IsGap (drop k (drop (line_len text) text)) (take (line_len text) text ++ take k (drop (line_len text) text))
-line_gap behind k h =
-    let n = line_len behind in
-    let whole = 47 ∷ 47 ∷ behind in
+line_gap after k h =
+    let n = line_len after in
+    let whole = 47 ∷ 47 ∷ after in
     let left = drop (line_len whole) whole in
-    let front : take (line_len whole) whole ≡ 47 ∷ 47 ∷ take n behind = one_more (1 + n) 47 (47 ∷ behind) ∙ ap (λ (xs : List ℕ). 47 ∷ xs) (one_more n 47 behind) in
-    let ends : ends_line (take k left ++ drop k left) ≡ true = ap ends_line (take-append-drop k left) ∙ ends_behind whole in
+    let front : take (line_len whole) whole ≡ 47 ∷ 47 ∷ take n after = one_more (1 + n) 47 (47 ∷ after) ∙ ap (λ (xs : List ℕ). 47 ∷ xs) (one_more n 47 after) in
+    let ends : ends_line (take k left ++ drop k left) ≡ true = ap ends_line (take-append-drop k left) ∙ ends_after whole in
     subst (λ (xs : List ℕ). IsGap (drop k left) (xs ++ take k left)) (sym front)
-    (IsGap.line (drop k left) (take n behind) (take k left) (all_in_line behind) ends h)
+    (IsGap.line (drop k left) (take n after) (take k left) (all_in_line after) ends h)
 
 -- ---- a comment with two ends
 
@@ -178,8 +178,8 @@ two_same byte zero rest some = absurd (omega arith)
 two_same byte (suc n) [] some = refl
 two_same byte (suc n) (next ∷ rest) some = refl
 
-closes_behind : (byte : ℕ) (rest : List ℕ) (k n : ℕ) → starts_with nat_eq (byte ∷ rest) (codes "*/") ≡ false → 1 ≤ k → k + 1 ≡ n → Closes rest k → Closes (byte ∷ rest) n
-closes_behind byte rest k n is some same h =
+closes_after : (byte : ℕ) (rest : List ℕ) (k n : ℕ) → starts_with nat_eq (byte ∷ rest) (codes "*/") ≡ false → 1 ≤ k → k + 1 ≡ n → Closes rest k → Closes (byte ∷ rest) n
+closes_after byte rest k n is some same h =
     let longer : suc k ≡ n = omega arith in
     let other : starts_with nat_eq (byte ∷ (h.inside ++ codes "*/")) (codes "*/") ≡ false = ap (λ (xs : List ℕ). starts_with nat_eq (byte ∷ xs) (codes "*/")) (sym h.taken) ∙ two_same byte k rest some ∙ is in
     record {
@@ -203,34 +203,34 @@ closing_some (byte ∷ rest) n is = some_step (starts_with nat_eq (byte ∷ rest
 closes_step : (t : Bool) (o : Option ℕ) (byte : ℕ) (rest : List ℕ) (n : ℕ) → starts_with nat_eq (byte ∷ rest) (codes "*/") ≡ t → closing_len rest ≡ o
     → ((k : ℕ) → closing_len rest ≡ Some k → Closes rest k) → cond t (Some 2) (option_map (λ m. m + 1) o) ≡ Some n → Closes (byte ∷ rest) n
 closes_step true o byte rest n is found more e = closes_here (byte ∷ rest) n is (some_is e)
-closes_step false (Some k) byte rest n is found more e = closes_behind byte rest k n is (closing_some rest k found) (some_is e) (more k found)
+closes_step false (Some k) byte rest n is found more e = closes_after byte rest k n is (closing_some rest k found) (some_is e) (more k found)
 closes_step false None byte rest n is found more e = absurd cc
 
 closes : (text : List ℕ) (n : ℕ) → closing_len text ≡ Some n → Closes text n
 closes [] n is = absurd cc
 closes (byte ∷ rest) n is = closes_step (starts_with nat_eq (byte ∷ rest) (codes "*/")) (closing_len rest) byte rest n refl refl (closes rest) is
 
-block_gap : (after behind rest : List ℕ) (n : ℕ) → Closes behind n → IsGap after rest → IsGap after (take (n + 2) (47 ∷ 42 ∷ behind) ++ rest)
-block_gap after behind rest n h gap_behind =
+block_gap : (follow after rest : List ℕ) (n : ℕ) → Closes after n → IsGap follow rest → IsGap follow (take (n + 2) (47 ∷ 42 ∷ after) ++ rest)
+block_gap follow after rest n h gap_after =
     let two : suc (suc n) ≡ n + 2 = omega arith in
-    let front : take (n + 2) (47 ∷ 42 ∷ behind) ≡ 47 ∷ 42 ∷ (h.inside ++ codes "*/") = ap (λ m. take m (47 ∷ 42 ∷ behind)) (sym two) ∙ ap (λ (xs : List ℕ). 47 ∷ 42 ∷ xs) h.taken in
-    subst (λ (xs : List ℕ). IsGap after (xs ++ rest)) (sym front) (IsGap.block after h.inside rest h.first gap_behind)
+    let front : take (n + 2) (47 ∷ 42 ∷ after) ≡ 47 ∷ 42 ∷ (h.inside ++ codes "*/") = ap (λ m. take m (47 ∷ 42 ∷ after)) (sym two) ∙ ap (λ (xs : List ℕ). 47 ∷ 42 ∷ xs) h.taken in
+    subst (λ (xs : List ℕ). IsGap follow (xs ++ rest)) (sym front) (IsGap.block follow h.inside rest h.first gap_after)
 
 -- ---- the rows of gaps
 
 gap_is : {a b : ℕ} → Some (Gap a) ≡ Some (Gap b) → a ≡ b
 gap_is e = cc
 
-blanks_row : (after : List ℕ) (t : Bool) (text : List ℕ) (len : ℕ) (rest : List ℕ) → cond t (Some (Gap (blank_len text))) None ≡ Some (Gap len) → IsGap after rest → IsGap after (take len text ++ rest)
-blanks_row after true text len rest is h = subst (λ n. IsGap after (take n text ++ rest)) (gap_is is) (blanks_gap after text rest h)
-blanks_row after false text len rest is h = absurd cc
+blanks_row : (follow : List ℕ) (t : Bool) (text : List ℕ) (len : ℕ) (rest : List ℕ) → cond t (Some (Gap (blank_len text))) None ≡ Some (Gap len) → IsGap follow rest → IsGap follow (take len text ++ rest)
+blanks_row follow true text len rest is h = subst (λ n. IsGap follow (take n text ++ rest)) (gap_is is) (blanks_gap follow text rest h)
+blanks_row follow false text len rest is h = absurd cc
 
-block_row : (after : List ℕ) (o : Option ℕ) (behind : List ℕ) (len : ℕ) (rest : List ℕ) → closing_len behind ≡ o → Some (block_comment (47 ∷ 42 ∷ behind) o) ≡ Some (Gap len)
-    → IsGap after rest → IsGap after (take len (47 ∷ 42 ∷ behind) ++ rest)
-block_row after (Some n) behind len rest found is h = subst (λ m. IsGap after (take m (47 ∷ 42 ∷ behind) ++ rest)) (gap_is is) (block_gap after behind rest n (closes behind n found) h)
-block_row after None behind len rest found is h = absurd cc
+block_row : (follow : List ℕ) (o : Option ℕ) (after : List ℕ) (len : ℕ) (rest : List ℕ) → closing_len after ≡ o → Some (block_comment (47 ∷ 42 ∷ after) o) ≡ Some (Gap len)
+    → IsGap follow rest → IsGap follow (take len (47 ∷ 42 ∷ after) ++ rest)
+block_row follow (Some n) after len rest found is h = subst (λ m. IsGap follow (take m (47 ∷ 42 ∷ after) ++ rest)) (gap_is is) (block_gap follow after rest n (closes after n found) h)
+block_row follow None after len rest found is h = absurd cc
 
--- so many bytes of a text, and behind them a gap in front of the rest, are a gap in front of the rest
+-- so many bytes of a text, and after them a gap in front of the rest, are a gap in front of the rest
 abbrev JoinsGap : ℕ → ℕ → List ℕ → Type 0
 JoinsGap len k text = IsGap (drop k (drop len text)) (take k (drop len text)) → IsGap (drop k (drop len text)) (take len text ++ take k (drop len text))
 
@@ -242,16 +242,16 @@ comment_row true u text len k line block is =
     let row : Line text = subst Line (sym (begins_with text (codes "//") line)) (line_gap (drop 2 text) k) in
     subst (λ n. JoinsGap n k text) (gap_is is) row
 comment_row false true text len k line block is = λ h.
-    let after = drop k (drop len text) in
-    let Block : List ℕ → Type 0 = λ xs. Some (block_comment xs (closing_len (drop 2 text))) ≡ Some (Gap len) → IsGap after (take len xs ++ take k (drop len text)) in
-    subst Block (sym (begins_with text (codes "/*") block)) (λ e. block_row after (closing_len (drop 2 text)) (drop 2 text) len (take k (drop len text)) refl e h) is
+    let follow = drop k (drop len text) in
+    let Block : List ℕ → Type 0 = λ xs. Some (block_comment xs (closing_len (drop 2 text))) ≡ Some (Gap len) → IsGap follow (take len xs ++ take k (drop len text)) in
+    subst Block (sym (begins_with text (codes "/*") block)) (λ e. block_row follow (closing_len (drop 2 text)) (drop 2 text) len (take k (drop len text)) refl e h) is
 comment_row false false text len k line block is = absurd cc
 
 gap_rows : (a b : Option Piece) (len : ℕ) (P : Type 0) → option_or a b ≡ Some (Gap len) → (a ≡ Some (Gap len) → P) → (b ≡ Some (Gap len) → P) → P
 gap_rows (Some x) b len P is p q = p is
 gap_rows None b len P is p q = q is
 
--- what a gap takes, in front of a gap behind it, is a gap
+-- what a gap takes, in front of a gap after it, is a gap
 pub gap_in_front : (text : List ℕ) (len k : ℕ) → piece_of text ≡ Some (Gap len) → JoinsGap len k text
 unfolding blanks comment
 gap_in_front text len k is = λ h.

@@ -13,7 +13,7 @@ shift_twice : (o : Option ℕ) (i : ℕ) → option_map (λ n. n + i) (option_ma
 shift_twice None i = refl
 shift_twice (Some n) i = ap Some (omega arith)
 
--- the byte at a place, and those behind it
+-- the byte at a place, and those after it
 opened : (text : List ℕ) (i : ℕ) → i < length text → drop i text ≡ get_or text i 0 ∷ drop (i + 1) text
 opened text i within = drop-cons text i 0 within ∙ ap (λ n. get_or text i 0 ∷ drop n text) (sym (add-one i))
 
@@ -30,7 +30,7 @@ closing_at text i within =
     ∙ closing_cases (starts_with nat_eq (get_or text i 0 ∷ drop (i + 1) text) (codes "*/")) (closing_len (drop (i + 1) text)) i
     ∙ ap (λ t. cond (starts_with nat_eq t (codes "*/")) (Some (2 + i)) (option_map (λ n. n + (i + 1)) (closing_len (drop (i + 1) text)))) (sym open_here)
 
--- no `*/` here: it is sought behind
+-- no `*/` here: it is sought after
 pub closing_step : (text : List ℕ) (i : ℕ) (r : Option ℕ) → i < length text → starts_with nat_eq (drop i text) (codes "*/") ≡ false
     → option_map (λ n. n + i) (closing_len (drop i text)) ≡ r → option_map (λ n. n + (i + 1)) (closing_len (drop (i + 1) text)) ≡ r
 closing_step text i r within other is = sym (closing_at text i within ∙ ap (λ t. cond t (Some (2 + i)) (option_map (λ n. n + (i + 1)) (closing_len (drop (i + 1) text)))) other) ∙ is
@@ -74,12 +74,12 @@ pub walked_is : (quote : ℕ) (text : List ℕ) → walked_len quote false text 
 walked_is quote [] = refl
 walked_is quote (byte ∷ []) = last_cases (byte == quote) (is_line_end byte)
 walked_is quote (byte ∷ next ∷ rest) =
-    let behind = walked_is quote rest in
+    let after = walked_is quote rest in
     let next_too = walked_is quote (next ∷ rest) in
     let escape = byte == 92 && is_escapable next in
     ap (λ (o : Option ℕ). cond (byte == quote) (Some 1) (cond (is_line_end byte) None o)) (
     escape_cases escape (walked_len quote false rest) (walked_len quote false (next ∷ rest))
-    ∙ ap (λ (o : Option ℕ). cond escape (option_map (λ n. n + 2) o) (option_map (λ n. n + 1) (walked_len quote false (next ∷ rest)))) behind
+    ∙ ap (λ (o : Option ℕ). cond escape (option_map (λ n. n + 2) o) (option_map (λ n. n + 1) (walked_len quote false (next ∷ rest)))) after
     ∙ ap (λ (o : Option ℕ). cond escape (option_map (λ n. n + 2) (string_len quote rest)) (option_map (λ n. n + 1) o)) next_too)
 
 string_cases : (a b c : Bool) (o p : Option ℕ) (i : ℕ) → option_map (λ n. n + i) (cond a (option_map (λ n. n + 1) o) (cond b (Some 1) (cond c None (option_map (λ n. n + 1) p))))
@@ -97,6 +97,6 @@ string_at quote escaped text i within =
     ap (λ t. option_map (λ n. n + i) (walked_len quote escaped t)) (opened text i within)
     ∙ string_cases (escaped && is_escapable (get_or text i 0)) (get_or text i 0 == quote) (is_line_end (get_or text i 0)) (walked_len quote false (drop (i + 1) text)) (walked_len quote (get_or text i 0 == 92) (drop (i + 1) text)) i
 
--- behind the last byte nothing closes
+-- after the last byte nothing closes
 pub walked_none : (quote : ℕ) (escaped : Bool) (text : List ℕ) (i : ℕ) (r : Option ℕ) → length text ≤ i → option_map (λ n. n + i) (walked_len quote escaped (drop i text)) ≡ r → None ≡ r
 walked_none quote escaped text i r past is = ap (λ t. option_map (λ n. n + i) (walked_len quote escaped t)) (sym (drop_all i text past)) ∙ is

@@ -5,3 +5,4 @@ pub mod Found
 pub mod Gaps
 pub mod Pieces
 pub mod Values
+pub mod Texts

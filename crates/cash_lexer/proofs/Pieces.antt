@@ -16,7 +16,7 @@ use Rattle.cash_lexer.specs.declared.piece.Piece.TheVariants.{Gap, Known, Flawed
 use Rattle.cash_lexer.specs.declared.piece.Flaw.TheVariants.{OddHex}
 use Rattle.cash_lexer.specs.Gap.{is_in_line, blank_len, line_len, closing_len, blanks, block_comment, comment}
 use Rattle.cash_lexer.specs.Numbers.{◌>>=◌, digits_len, hex_len, hex, dotted_len, last_len, version, exponent_len, number_piece, number}
-use Rattle.cash_lexer.specs.Dates.{has_date_string, date_piece, date_behind, date, is_quote}
+use Rattle.cash_lexer.specs.Dates.{has_date_string, date_piece, date_after, date, is_quote}
 use Rattle.cash_lexer.specs.Rows.{is_word_start, is_word_byte, is_escapable, is_line_end, word, string_len, string_piece, string, double_signs, single_signs, sign, bad_character, gap, literal, other, piece_of}
 
 abbrev pub Fits : ℕ → Option Piece → Type 0
@@ -137,9 +137,9 @@ unfolding has_date_string
 date_string_long text is = leb-true 22 (length text) (and_left _ _ (and_left _ _ (and_left _ _ is)))
 
 date_fits : (text : List ℕ) → Fits (length text) (date text)
-unfolding date date_behind
+unfolding date date_after
 date_fits text =
-    if_fits (length text) (starts_with nat_eq text (codes "date(")) (Some (date_piece (date_behind (drop 5 text)))) None
+    if_fits (length text) (starts_with nat_eq text (codes "date(")) (Some (date_piece (date_after (drop 5 text)))) None
     (λ h. date_long (length text) (has_date_string (drop 5 text)) _ (starts_length text (codes "date(") h) (λ s. let far = date_string_long (drop 5 text) s in omega (arith, length-drop 5 text)))
     (λ _. tt)
 
@@ -231,13 +231,13 @@ string_most : (quote : ℕ) (text : List ℕ) → Most (length text) (string_len
 string_most quote [] = tt
 string_most quote (byte ∷ []) = most_if 1 (byte == quote) (Some 1) None (λ _. omega arith) (λ _. tt)
 string_most quote (byte ∷ next ∷ rest) =
-    let behind = string_most quote rest in
+    let after = string_most quote rest in
     let next_too = string_most quote (next ∷ rest) in
     let n = length (byte ∷ next ∷ rest) in
     most_if n (byte == quote) (Some 1) _ (λ _. omega arith)
     (λ _. most_if n (is_line_end byte) None _ (λ _. tt)
     (λ _. most_if n (byte == 92 && is_escapable next) (option_map (λ k. k + 2) (string_len quote rest)) (option_map (λ k. k + 1) (string_len quote (next ∷ rest)))
-    (λ _. most_twice (length rest) (string_len quote rest) behind) (λ _. most_more (length (next ∷ rest)) (string_len quote (next ∷ rest)) next_too)))
+    (λ _. most_twice (length rest) (string_len quote rest) after) (λ _. most_more (length (next ∷ rest)) (string_len quote (next ∷ rest)) next_too)))
 
 string_piece_fits : (n : ℕ) (o : Option ℕ) → Most n o → Fits (suc n) (Some (string_piece o))
 string_piece_fits n (Some k) most = (omega arith, omega arith)

@@ -48,7 +48,7 @@ too_wide digits i value within wide is =
     let more = fold_grows (drop (suc i) digits) (with_digit value (get_or digits i 0)) in
     wide_none (decimal digits) (omega (arith, more, sym is ∙ here, wide))
 
--- behind the last digit
+-- after the last digit
 pub whole_value : (digits : List ℕ) (i value : ℕ) → length digits ≤ i → value < 2 ^ 128 → fold with_digit value (drop i digits) ≡ decimal digits → Some value ≡ narrow (decimal digits)
 whole_value digits i value past small is =
     let value_is : value ≡ decimal digits = ap (fold with_digit value) (sym (drop_all i digits past)) ∙ is in

@@ -54,7 +54,7 @@ date_value text =
 abbrev pub is_quote : ℕ → Bool
 is_quote byte = byte == 34 || byte == 39
 
--- What stands behind `date(` begins with a string of 19 signs and `)`. No sign of a date is spelled by an escape.
+-- What stands after `date(` begins with a string of 19 signs and `)`. No sign of a date is spelled by an escape.
 unfoldable pub has_date_string : List ℕ → Bool
 has_date_string text =
     nat_le 22 (length text) && is_quote (slice_index text 0)
@@ -64,10 +64,10 @@ abbrev pub date_piece : Option ℤ → Piece
 date_piece (Some n) = Known (Date n) 27
 date_piece None = Flawed BadDate 5
 
-unfoldable pub date_behind : List ℕ → Option ℤ
-date_behind text = if has_date_string text then date_value (take 19 (drop 1 text)) else None
+unfoldable pub date_after : List ℕ → Option ℤ
+date_after text = if has_date_string text then date_value (take 19 (drop 1 text)) else None
 
--- `date(` begins a date, whatever stands behind it
+-- `date(` begins a date, whatever stands after it
 unfoldable pub date : List ℕ → Option Piece
 date text =
-    if starts_with nat_eq text (codes "date(") then Some (date_piece (date_behind (drop 5 text))) else None
+    if starts_with nat_eq text (codes "date(") then Some (date_piece (date_after (drop 5 text))) else None

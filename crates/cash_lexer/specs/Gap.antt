@@ -32,7 +32,7 @@ closing_len (byte ∷ rest) =
 unfoldable pub blanks : List ℕ → Option Piece
 blanks text = if nat_lt 0 (blank_len text) then Some (Gap (blank_len text)) else None
 
--- a comment that ends behind its `*/`, or is open up to the end
+-- a comment that ends after its `*/`, or is open up to the end
 abbrev pub block_comment : List ℕ → Option ℕ → Piece
 block_comment text (Some n) = Gap (n + 2)
 block_comment text None = Flawed OpenComment (length text)

@@ -13,7 +13,7 @@ digits_len text = prefix_len is_ascii_digit text
 
 -- ---- hexadecimal digits
 
--- how many bytes `0x` or `0X` and the hexadecimal digits behind it take
+-- how many bytes `0x` or `0X` and the hexadecimal digits after it take
 abbrev pub hex_len : List ℕ → ℕ
 hex_len text = 2 + prefix_len is_ascii_hexdigit (drop 2 text)
 
@@ -26,7 +26,7 @@ hex text =
 
 -- ---- versions
 
--- how many bytes digits and a dot behind them take
+-- how many bytes digits and a dot after them take
 abbrev pub dotted_len : List ℕ → Option ℕ
 dotted_len text =
     if nat_lt 0 (digits_len text) && starts_with nat_eq (drop (digits_len text) text) (codes ".")
@@ -64,7 +64,7 @@ with_digit n digit = n * 10 + (digit - 48)
 abbrev pub decimal : List ℕ → ℕ
 decimal digits = fold with_digit 0 digits
 
--- how many bytes `e` or `E` and the digits behind it take, or 0
+-- how many bytes `e` or `E` and the digits after it take, or 0
 abbrev pub exponent_len : List ℕ → ℕ
 exponent_len text =
     if (starts_with nat_eq text (codes "e") || starts_with nat_eq text (codes "E")) && nat_lt 0 (digits_len (drop 1 text))

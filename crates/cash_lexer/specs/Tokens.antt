@@ -1,6 +1,6 @@
 -- The tokens of a text. The source of the rules is the CashScript 0.7 documentation with its grammar. This project's own
 -- are: the escapes of strings, the exponent of numbers and their limit of 128 bits, the shape of dates and that they are
--- read as UTC, that `a-5` is a subtraction, that a word may begin with `_`, that only a line feed ends a comment behind
+-- read as UTC, that `a-5` is a subtraction, that a word may begin with `_`, that only a line feed ends a comment after
 -- `//`, and the faults with their spans.
 use Rattle.std.specs.Prelude.{ℕ, zero, suc, ◌+◌, ◌-◌, List, [], ◌∷◌, ◌++◌, Option, Some, None, Result, Ok, Err}
 use Rattle.cash_base.specs.declared.place.Span.{Span}
@@ -12,6 +12,10 @@ use Rattle.cash_lexer.specs.declared.piece.Flaw.TheVariants as flaws
 use Rattle.cash_lexer.specs.declared.fault.LexFault.{LexFault}
 use Rattle.cash_lexer.specs.declared.fault.LexFault.TheVariants as faults
 use Rattle.cash_lexer.specs.Rows.{piece_of}
+
+-- a text has at most so many bytes: 2^31 - 1
+abbrev pub most_bytes : ℕ
+most_bytes = 2147483647
 
 -- so many bytes from a place on
 abbrev pub span_at : ℕ → ℕ → Span
@@ -29,24 +33,24 @@ fault_of flaws.BadDate span = faults.BadDate span
 abbrev pub Find : Type 0
 Find = Result Token LexFault
 
--- What a piece at a place adds to what is found behind it. A fault ends the reading.
+-- What a piece at a place adds to what is found after it. A fault ends the reading.
 abbrev pub finds_with : ℕ → Option Piece → (ℕ → List Find) → List Find
-finds_with at None behind = []
-finds_with at (Some (Gap len)) behind = behind len
-finds_with at (Some (Known kind len)) behind = Ok (record { kind = kind; span = span_at at len }) ∷ behind len
-finds_with at (Some (Flawed flaw len)) behind = Err (fault_of flaw (span_at at len)) ∷ []
+finds_with at None after = []
+finds_with at (Some (Gap len)) after = after len
+finds_with at (Some (Known kind len)) after = Ok (record { kind = kind; span = span_at at len }) ∷ after len
+finds_with at (Some (Flawed flaw len)) after = Err (fault_of flaw (span_at at len)) ∷ []
 
--- What is found in a text that stands at a place, behind its first bytes, so many, which belong to an earlier piece:
+-- What is found in a text that stands at a place, after its first bytes, so many, which belong to an earlier piece:
 -- the tokens in order, up to the end or the first fault.
-unfoldable pub finds_behind : ℕ → ℕ → List ℕ → List Find
-finds_behind skipped at [] = []
-finds_behind (suc skipped) at (byte ∷ rest) = finds_behind skipped (at + 1) rest
-finds_behind zero at (byte ∷ rest) =
-    finds_with at (piece_of (byte ∷ rest)) (λ len. finds_behind (len - 1) (at + 1) rest)
+unfoldable pub finds_after : ℕ → ℕ → List ℕ → List Find
+finds_after skipped at [] = []
+finds_after (suc skipped) at (byte ∷ rest) = finds_after skipped (at + 1) rest
+finds_after zero at (byte ∷ rest) =
+    finds_with at (piece_of (byte ∷ rest)) (λ len. finds_after (len - 1) (at + 1) rest)
 
 -- what is found in a text that stands at a place
 abbrev pub finds : ℕ → List ℕ → List Find
-finds at text = finds_behind 0 at text
+finds at text = finds_after 0 at text
 
 -- the first token, the fault before any token, or neither
 abbrev pub first_of : List Find → Result (Option Token) LexFault

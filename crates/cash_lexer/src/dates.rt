@@ -5,7 +5,7 @@ ghost use Rattle.std.specs.Bool.{OnTrue};
 ghost use Rattle.std.specs.List.{list_all, zip};
 ghost use Rattle.jiff_core.specs.Date.{IsYmd};
 ghost use Rattle.jiff_core.specs.Time.{IsHms};
-ghost use Rattle.cash_lexer.specs.Dates.{shape, fits, has_shape, seconds, moment, two_digits, date_value, is_quote, has_date_string, date_behind, date};
+ghost use Rattle.cash_lexer.specs.Dates.{shape, fits, has_shape, seconds, moment, two_digits, date_value, is_quote, has_date_string, date_after, date};
 
 use crate::piece::{Flaw, Piece};
 use cash_tree::TokenKind;
@@ -128,10 +128,10 @@ fn has_date_string(text: &[u8]) -> bool
     text.len() >= 22 && is_quote(text[0]) && text[20] == text[0] && text[21] == b')'
 }
 
-/// The seconds since 1970 of the date in the string behind `date(`.
-#[tactic(auto, unfolding(crate::specs::Dates::date_behind))]
-fn date_behind(text: &[u8]) -> Option<i64>
-    ensures { result ≡ date_behind text.now }
+/// The seconds since 1970 of the date in the string after `date(`.
+#[tactic(auto, unfolding(crate::specs::Dates::date_after))]
+fn date_after(text: &[u8]) -> Option<i64>
+    ensures { result ≡ date_after text.now }
 {
     if has_date_string(text) {
         date_value(&text[1..20])
@@ -148,7 +148,7 @@ pub fn date(text: &[u8]) -> Option<Piece>
     if !text.starts_with(b"date(") {
         return None;
     }
-    match date_behind(&text[5..]) {
+    match date_after(&text[5..]) {
         Some(seconds) => Some(Piece::Known(TokenKind::Date(seconds), 27)),
         None => Some(Piece::Flawed(Flaw::BadDate, 5)),
     }

@@ -19,7 +19,7 @@ pub enum LexFault {
     NumberTooWide { span: Span },
     /// `0x` with an odd number of digits.
     OddHex { span: Span },
-    /// What stands behind `date(` is no date in a string and `)`; the span is `date(`.
+    /// What stands after `date(` is no date in a string and `)`; the span is `date(`.
     BadDate { span: Span },
     /// Memory ran out.
     Memory,

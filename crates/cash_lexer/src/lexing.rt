@@ -1,11 +1,8 @@
 //! The tokens of a source.
 
-ghost use Rattle.std.specs.Prelude.{◌≡◌, ◌≢◌, ℕ, List, ◌+◌, ◌≤◌, ◌^◌, ◌<◌, length, drop, Ok, Err, IfOk, IfErr};
-ghost use Rattle.cash_tree.specs.declared.Token.{Token as CashToken};
+ghost use Rattle.std.specs.Prelude.{◌≡◌, ◌≢◌, ◌+◌, ◌≤◌, ◌^◌, ◌<◌, length, drop, Ok, Err, IfOk, IfErr};
 ghost use Rattle.cash_lexer.specs.declared.fault.LexFault.TheVariants.{Memory};
-ghost use Rattle.cash_lexer.specs.Tokens.{span_at, fault_of, finds_with, finds, first_found, lexed};
-ghost use Rattle.cash_lexer.specs.Rows.{piece_of};
-ghost use Rattle.cash_lexer.specs.Laws.{IsCut, NextAre};
+ghost use Rattle.cash_lexer.specs.Tokens.{most_bytes, span_at, fault_of, first_found, lexed};
 
 use crate::fault::LexFault;
 use crate::piece::{Flaw, Piece};
@@ -49,7 +46,7 @@ fn from_place(source: &[u8], at: usize) -> &[u8]
 
 /// The first token from a place on, or the fault before any, or `None`.
 fn next_from(source: &[u8], from: usize) -> Result<Option<Token>, LexFault>
-    requires long { length source.now ≤ 2147483647 }
+    requires long { length source.now ≤ most_bytes }
     requires within { from ≤ length source.now }
     ensures value { result ≡ first_found from (drop from source.now) }
     ensures sure { IfErr result (λ fault. fault ≢ Memory) }
@@ -79,7 +76,7 @@ fn next_from(source: &[u8], from: usize) -> Result<Option<Token>, LexFault>
 ///
 /// The fault that comes before any token, with its span; never `Memory`.
 pub fn next_token(source: &str, from: usize) -> Result<Option<Token>, LexFault>
-    requires long { length source.now ≤ 2147483647 }
+    requires long { length source.now ≤ most_bytes }
     requires within { from ≤ length source.now }
     ensures value { result ≡ first_found from (drop from source.now) }
     ensures sure { IfErr result (λ fault. fault ≢ Memory) }
@@ -89,14 +86,14 @@ pub fn next_token(source: &str, from: usize) -> Result<Option<Token>, LexFault>
 
 /// All tokens of a source, in order.
 ///
-/// Each is the one with which the source goes on behind blanks and comments, as long as it can be, and the first row
+/// Each is the one with which the source goes on after blanks and comments, as long as it can be, and the first row
 /// of the rules that fits counts. It goes over the source once.
 ///
 /// # Errors
 ///
 /// The first fault of the source, or `Memory`, where memory ran out.
 pub fn tokens(alloc: Global, source: &str) -> Result<Vec<Token>, LexFault>
-    requires { length source.now ≤ 2147483647 }
+    requires { length source.now ≤ most_bytes }
     ensures found { IfOk result (λ tokens. lexed source.now ≡ Ok tokens.items) }
     ensures fault { IfErr result (λ fault. fault ≢ Memory → lexed source.now ≡ Err fault) }
 {
@@ -109,20 +106,3 @@ pub fn tokens(alloc: Global, source: &str) -> Result<Vec<Token>, LexFault>
     }
     Ok(tokens)
 }
-
-/// What is found in a text is found piece by piece: behind a gap and behind a token the rest goes on in the same way, and
-/// a fault ends it.
-pub fn finds_go_by_pieces()
-    ensures { (at : ℕ) (text : List ℕ) → finds at text ≡ finds_with at (piece_of text) (λ len. finds (at + len) (drop len text)) }
-{}
-
-/// The tokens of a source stand in order, don't overlap and lie inside it; each is the one with which the source goes
-/// on at its place; and what stands before, between and behind them is blanks and comments.
-pub fn tokens_cut_the_source()
-    ensures { (source : List ℕ) (tokens : List CashToken) → lexed source ≡ Ok tokens → IsCut 0 tokens source }
-{}
-
-/// From the start of a source on, and from the end of each of its tokens on, `next_token` gives the next one.
-pub fn next_tokens_are_the_tokens()
-    ensures { (source : List ℕ) (tokens : List CashToken) → lexed source ≡ Ok tokens → NextAre 0 tokens source }
-{}

@@ -2,20 +2,20 @@
 //!
 //! The rules are those of the CashScript 0.7 documentation with its grammar; `specs/Tokens.antt` says what is this
 //! project's own. The definition is over the text as a list of bytes, by rows: the first row that fits gives the piece
-//! with which a text begins, as long as it can be, and behind it the rest goes on in the same way.
+//! with which a text begins, as long as it can be, and after it the rest goes on in the same way.
 #![tactic(auto)]
 
 mod dates;
 mod fault;
 mod gap;
+mod laws;
 mod lexing;
 mod numbers;
 mod piece;
 mod rows;
-#[cfg(test)]
-mod tests;
 
 pub use fault::LexFault;
-pub use lexing::{
-    finds_go_by_pieces, next_token, next_tokens_are_the_tokens, tokens, tokens_cut_the_source,
+pub use laws::{
+    finds_go_by_pieces, next_tokens_are_the_tokens, tokens_cut_the_source, words_have_texts,
 };
+pub use lexing::{next_token, tokens};

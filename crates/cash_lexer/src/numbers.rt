@@ -42,7 +42,7 @@ pub fn hex(text: &[u8]) -> Option<Piece>
     }
 }
 
-/// How many bytes digits and a dot behind them take.
+/// How many bytes digits and a dot after them take.
 fn dotted_len(text: &[u8]) -> Option<usize>
     ensures value { result ≡ dotted_len text.now }
     ensures within { IfSome result (λ n. n ≤ length text.now) }
@@ -100,7 +100,7 @@ fn decimal(digits: &[u8]) -> Option<u128>
     Some(value)
 }
 
-/// How many bytes `e` or `E` and the digits behind it take, or 0.
+/// How many bytes `e` or `E` and the digits after it take, or 0.
 fn exponent_len(text: &[u8]) -> usize
     ensures value { result ≡ exponent_len text.now }
     ensures within { result ≤ length text.now }
@@ -131,17 +131,17 @@ fn number_value(digits: &[u8], exponent: &[u8]) -> Option<u128>
     }
 }
 
-/// Digits, and maybe a power of ten behind `e` or `E`.
+/// Digits, and maybe a power of ten after `e` or `E`.
 #[tactic(auto, unfolding(crate::specs::Numbers::number))]
 pub fn number(text: &[u8]) -> Option<Piece>
     ensures { result ≡ number text.now }
 {
-    let (digits, behind) = text.split_at(digits_len(text));
+    let (digits, after) = text.split_at(digits_len(text));
     if digits.is_empty() {
         return None;
     }
-    let power = exponent_len(behind);
-    let exponent = &behind[..power];
+    let power = exponent_len(after);
+    let exponent = &after[..power];
     let exponent = if power == 0 { exponent } else { &exponent[1..] };
     let len = digits.len() + power;
     match number_value(digits, exponent) {

@@ -6,14 +6,13 @@ use Rattle.cash_base.specs.declared.place.Span.{Span}
 use Rattle.cash_tree.specs.declared.Param.{Param}
 use Rattle.cash_tree.specs.declared.Constraint.{Constraint}
 use Rattle.cash_parser.specs.Answer.{IsNone}
-use Rattle.cash_parser.specs.Words.{is_text, is_constraint_sign}
-use Rattle.cash_parser.specs.Lexemes.{Lexeme, Type_, Name}
-use Rattle.cash_parser.specs.Grammar.{lex, mark}
-use Rattle.cash_parser.specs.Reading.{eaten}
+use Rattle.cash_symbols.specs.Words.{is_text, is_constraint_sign}
+use Rattle.cash_symbols.specs.Lexemes.{Lexeme, Type_, Name}
+use Rattle.cash_symbols.specs.Front.{lex, mark, eaten}
 use Rattle.cash_parser.specs.Files.{Tree, FunctionTree, SpellsParams, no_param, last_param, next_param, SpellsFunctions, no_function, one_function, SpellsConstraint, bare_version, signed_version, SpellsFile, contract, one_constraint, two_constraints}
 use Rattle.cash_parser.specs.FileReading.{params, functions, file, constraint_at, pragma_at, file_reading, tree_of}
-use Rattle.cash_parser.proofs.Steps.{bind_some, some_is, chosen, text_is}
-use Rattle.cash_parser.proofs.StatementComplete.{complete_run}
+use Rattle.cash_symbols.proofs.Steps.{bind_some, some_is, chosen, text_is}
+use Rattle.cash_statements.proofs.StatementComplete.{complete_run}
 use Rattle.cash_parser.proofs.FileSound.{file_unrolled, file_sound_of}
 
 complete_params : {a : List Lexeme} {ps : List (Param Span)} → SpellsParams a ps → (c : Span) (rest : List Lexeme)

@@ -4,9 +4,9 @@ use Rattle.std.proofs.lemmas.List.{append-nil}
 use Rattle.cash_base.specs.declared.place.Span.{Span}
 use Rattle.cash_tree.specs.declared.Param.{Param}
 use Rattle.cash_tree.specs.declared.Constraint.{Constraint}
-use Rattle.cash_parser.specs.Lexemes.{Lexeme}
-use Rattle.cash_parser.specs.Fixpoint.{◌>>=◌}
-use Rattle.cash_parser.specs.Reading.{eaten}
+use Rattle.cash_symbols.specs.Lexemes.{Lexeme}
+use Rattle.cash_symbols.specs.Fixpoint.{◌>>=◌}
+use Rattle.cash_symbols.specs.Front.{eaten}
 use Rattle.cash_parser.specs.Files.{Tree, FunctionTree}
 use Rattle.cash_parser.specs.FileReading.{params, functions, file, param_at, function_at, contract_at, pragma_at, with_pragmas, file_reading}
 use Rattle.cash_parser.proofs.FileSound.{file_unrolled}

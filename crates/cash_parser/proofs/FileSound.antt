@@ -4,18 +4,17 @@ use Rattle.cash_base.specs.declared.place.Span.{Span}
 use Rattle.cash_tree.specs.declared.Ty.{Ty}
 use Rattle.cash_tree.specs.declared.Param.{Param}
 use Rattle.cash_tree.specs.declared.Constraint.{Constraint}
-use Rattle.cash_parser.specs.Words.{is_constraint_sign}
-use Rattle.cash_parser.specs.Lexemes.{Lexeme, Symbol, Mark, Type_, Name, Version}
-use Rattle.cash_parser.specs.Fixpoint.{◌>>=◌}
-use Rattle.cash_parser.specs.Grammar.{lex, mark, name_of, mark_value}
-use Rattle.cash_parser.specs.Reading.{eaten, taken}
-use Rattle.cash_parser.specs.Statements.{param_of}
-use Rattle.cash_parser.specs.StatementReading.{run}
+use Rattle.cash_symbols.specs.Words.{is_constraint_sign}
+use Rattle.cash_symbols.specs.Lexemes.{Lexeme, Symbol, Mark, Type_, Name, Version}
+use Rattle.cash_symbols.specs.Fixpoint.{◌>>=◌}
+use Rattle.cash_symbols.specs.Front.{lex, mark, name_of, mark_value, eaten, taken}
+use Rattle.cash_statements.specs.Statements.{param_of}
+use Rattle.cash_statements.specs.StatementReading.{run}
 use Rattle.cash_parser.specs.Files.{Tree, FunctionTree, contract_of, with_pragma, SpellsParams, no_param, last_param, next_param, SpellsFunctions, no_function, one_function, SpellsConstraint, bare_version, signed_version, SpellsFile, contract, one_constraint, two_constraints}
 use Rattle.cash_parser.specs.FileReading.{Goal, params, functions, file, Value, Reader, version_value, sign_value, constraint_step, second_step, pragma_at, param_at, last_step, comma_step, params_step, head_at, function_at, functions_step, contract_at, file_step, step, weight, file_reading}
-use Rattle.cash_parser.proofs.Fixpoint.{Gives-good, Agree-below, fixed_good, fixed_unrolled}
-use Rattle.cash_parser.proofs.Steps.{then_same, bind_some, some_is, chosen, Takes, one, joint, eats, eaten_is, eaten_shorter, taken_is, taken_shorter, takes_name, takes_type}
-use Rattle.cash_parser.proofs.StatementSound.{statement_sound_of}
+use Rattle.cash_symbols.proofs.Fixpoint.{Gives-good, Agree-below, fixed_good, fixed_unrolled}
+use Rattle.cash_symbols.proofs.Steps.{then_same, bind_some, some_is, chosen, Takes, one, joint, eats, eaten_is, eaten_shorter, taken_is, taken_shorter, takes_name, takes_type}
+use Rattle.cash_statements.proofs.StatementSound.{statement_sound_of}
 
 -- ---- constraints
 
@@ -68,7 +67,7 @@ constraint_found ts None x at q =
     subst (λ (z : Constraint × List Lexeme). Constrained ts z) (some_is v.2)
     (record { a = lex Version v.0.0.1 ∷ []; takes = takes_version ts v.0 v.1; spelled = bare_version v.0.0.1 })
 
--- a pragma behind its word: in front of what spells a contract it makes one
+-- a pragma after its word: in front of what spells a contract it makes one
 pub record Pragma (ts : List Lexeme) (x : List Constraint × List Lexeme) : Type 0 where
   a : List Lexeme
   takes : Takes ts a x.1

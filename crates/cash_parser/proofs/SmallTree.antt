@@ -7,14 +7,15 @@ use Rattle.cash_tree.specs.declared.Ty.{Ty}
 use Rattle.cash_tree.specs.declared.Param.{Param}
 use Rattle.cash_tree.specs.declared.StmtKind.TheVariants as nodes
 use Rattle.cash_tree.specs.declared.StmtKind.TheFolds.{the_lemmas}
-use Rattle.cash_parser.specs.Lexemes.{Lexeme, Type_, Name}
-use Rattle.cash_parser.specs.Grammar.{Expression, SpellsExpr, lex, mark}
-use Rattle.cash_parser.specs.Statements.{Statement, Body, param_of, define_of, pair_of, assign_of, time_of, age_of, require_of, if_of, if_else_of, SpellsSimple, define, pair, assign, time, age, required, SpellsStmt, simple, if_only, if_else, SpellsBlock, single, braces, SpellsRun, no_statement, one_statement}
+use Rattle.cash_symbols.specs.Lexemes.{Lexeme, Type_, Name}
+use Rattle.cash_expressions.specs.Grammar.{Expression, SpellsExpr}
+use Rattle.cash_symbols.specs.Front.{lex, mark}
+use Rattle.cash_statements.specs.Statements.{Statement, Body, param_of, define_of, pair_of, assign_of, time_of, age_of, require_of, if_of, if_else_of, SpellsSimple, define, pair, assign, time, age, required, SpellsStmt, simple, if_only, if_else, SpellsBlock, single, braces, SpellsRun, no_statement, one_statement}
 use Rattle.cash_parser.specs.Files.{Tree, FunctionTree, SpellsFunctions, no_function, one_function, SpellsFile, contract, one_constraint, two_constraints}
 use Rattle.cash_parser.specs.FileReading.{tree_of}
-use Rattle.cash_parser.specs.DepthRules.{deepest_token}
-use Rattle.cash_parser.specs.Nodes.{joined, joined_or_none, values, tree_values, AreSmall, nodes as node_count}
-use Rattle.cash_parser.proofs.Small.{Runs, few_nodes, is_run, runs_short}
+use Rattle.cash_symbols.specs.DepthRules.{first_too_deep}
+use Rattle.cash_tree.specs.Nodes.{joined, joined_or_none, values, tree_values, AreSmall, nodes as node_count}
+use Rattle.cash_expressions.proofs.Small.{Runs, few_nodes, is_run, runs_short}
 use Rattle.cash_parser.proofs.FileComplete.{tree_found}
 
 -- ---- the expressions of a statement
@@ -46,8 +47,8 @@ at_if s e body other is = search (rules, the_lemmas)
 
 -- ---- runs in a part of the lexemes
 
-behind : (a b : List Lexeme) → Runs (a ++ b) → Runs b
-behind a b h =
+after : (a b : List Lexeme) → Runs (a ++ b) → Runs b
+after a b h =
     record {
       short = λ pre x post e run. h.short (a ++ pre) x post
           (ap (λ (z : List Lexeme). a ++ z) e ∙ sym (append_assoc a pre (x ++ post))) run;
@@ -70,7 +71,7 @@ small {a = a} {e = e} d h =
 -- an expression in front of others
 first_small : (t : List Lexeme) (a b : List Lexeme) (e : Expression) → SpellsExpr a e → Runs (t ++ (a ++ b))
     → AreSmall (e ∷ [])
-first_small t a b e d h = (small d (before a b (behind t (a ++ b) h)), tt)
+first_small t a b e d h = (small d (before a b (after t (a ++ b) h)), tt)
 
 both_small : (es fs : List Expression) → AreSmall es → AreSmall fs → AreSmall (es ++ fs)
 both_small [] fs h k = k
@@ -82,7 +83,7 @@ one_small s e is h = subst AreSmall (sym is) h
 small_simple : {a : List Lexeme} {s : Statement} → SpellsSimple a s → Runs a → AreSmall (values s)
 small_simple (define {ty = ty} {s = s} k word p q c {a = a} {b = b} {e = e} ks d) h =
     let inner : List Lexeme = lex (Name word) p ∷ mark (codes "=") q ∷ (b ++ mark (codes ";") c ∷ []) in
-    let k' : Runs inner = behind a inner (behind (lex (Type_ ty) s ∷ []) (a ++ inner) h) in
+    let k' : Runs inner = after a inner (after (lex (Type_ ty) s ∷ []) (a ++ inner) h) in
     one_small (define_of s ty k p e c) e (at_define (define_of s ty k p e c) ty k p e refl)
     (first_small (lex (Name word) p ∷ mark (codes "=") q ∷ []) b (mark (codes ";") c ∷ []) e d k')
 small_simple (pair {ty = ty} {ty' = ty'} {s = s} {s' = s'} {word = word} {word' = word'} p m p' q c {a = a} {e = e} d)
@@ -113,17 +114,17 @@ mutual
   small_stmt (if_only i o c {a = a} {b = b} {e = e} {body = body} d inner) h =
       let front : List Lexeme = mark (codes "if") i ∷ mark (codes "(") o ∷ [] in
       let test = first_small front a (mark (codes ")") c ∷ b) e d h in
-      let k : Runs b = behind (mark (codes ")") c ∷ []) b
-      (behind a (mark (codes ")") c ∷ b) (behind front (a ++ (mark (codes ")") c ∷ b)) h)) in
+      let k : Runs b = after (mark (codes ")") c ∷ []) b
+      (after a (mark (codes ")") c ∷ b) (after front (a ++ (mark (codes ")") c ∷ b)) h)) in
       subst AreSmall (sym (at_if (if_of i e body) e body.0 None refl))
       (test.0, both_small (joined (map values body.0)) [] (small_block inner k) tt)
   small_stmt (if_else i o c l {a = a} {b = b} {d = d'} {e = e} {body = body} {other = other} d inner outer) h =
       let front : List Lexeme = mark (codes "if") i ∷ mark (codes "(") o ∷ [] in
       let last : List Lexeme = mark (codes "else") l ∷ d' in
       let test = first_small front a (mark (codes ")") c ∷ (b ++ last)) e d h in
-      let k : Runs (b ++ last) = behind (mark (codes ")") c ∷ []) (b ++ last)
-      (behind a (mark (codes ")") c ∷ (b ++ last)) (behind front (a ++ (mark (codes ")") c ∷ (b ++ last))) h)) in
-      let m : Runs d' = behind (mark (codes "else") l ∷ []) d' (behind b last k) in
+      let k : Runs (b ++ last) = after (mark (codes ")") c ∷ []) (b ++ last)
+      (after a (mark (codes ")") c ∷ (b ++ last)) (after front (a ++ (mark (codes ")") c ∷ (b ++ last))) h)) in
+      let m : Runs d' = after (mark (codes "else") l ∷ []) d' (after b last k) in
       subst AreSmall (sym (at_if (if_else_of i e body other) e body.0 (Some other.0) refl)) (
         test.0,
         both_small (joined (map values body.0)) (joined (map values other.0))
@@ -135,12 +136,12 @@ mutual
   small_block (single {s = s} d) h = both_small (values s) [] (small_stmt d h) tt
   small_block (braces o c {a = a} d) h =
       small_run d (before a (mark (codes "}") c ∷ [])
-      (behind (mark (codes "{") o ∷ []) (a ++ mark (codes "}") c ∷ []) h))
+      (after (mark (codes "{") o ∷ []) (a ++ mark (codes "}") c ∷ []) h))
 
   small_run : {a : List Lexeme} {ss : List Statement} → SpellsRun a ss → Runs a → AreSmall (joined (map values ss))
   small_run no_statement h = tt
   small_run (one_statement {a = a} {b = b} {s = s} {ss = ss} d ds) h =
-      both_small (values s) (joined (map values ss)) (small_stmt d (before a b h)) (small_run ds (behind a b h))
+      both_small (values s) (joined (map values ss)) (small_stmt d (before a b h)) (small_run ds (after a b h))
 
 abbrev function_values : FunctionTree → List Expression
 function_values f = joined (map values f.body)
@@ -153,29 +154,33 @@ small_functions (one_function {word = word} f n o c b z {a = a} {d = d} {more = 
     let front : List Lexeme = mark (codes "function") f ∷ lex (Name word) n ∷ mark (codes "(") o ∷ [] in
     let last : List Lexeme = mark (codes "}") z ∷ more in
     let inner : List Lexeme = mark (codes ")") c ∷ mark (codes "{") b ∷ (d ++ last) in
-    let k : Runs (d ++ last) = behind (mark (codes ")") c ∷ mark (codes "{") b ∷ []) (d ++ last)
-    (behind a inner (behind front (a ++ inner) h)) in
+    let k : Runs (d ++ last) = after (mark (codes ")") c ∷ mark (codes "{") b ∷ []) (d ++ last)
+    (after a inner (after front (a ++ inner) h)) in
     both_small (joined (map values ss)) (joined (map function_values fs)) (small_run body (before d last k))
-    (small_functions others (behind (mark (codes "}") z ∷ []) more (behind d last k)))
+    (small_functions others (after (mark (codes "}") z ∷ []) more (after d last k)))
 
 pub small_tree : {a : List Lexeme} {tree : Tree} → SpellsFile a tree → Runs a → AreSmall (tree_values tree)
 small_tree (contract {word = word} k n o c b z {a = a} {d = d} ps fs) h =
     let front : List Lexeme = mark (codes "contract") k ∷ lex (Name word) n ∷ mark (codes "(") o ∷ [] in
     let last : List Lexeme = mark (codes "}") z ∷ [] in
     let inner : List Lexeme = mark (codes ")") c ∷ mark (codes "{") b ∷ (d ++ last) in
-    let m : Runs (d ++ last) = behind (mark (codes ")") c ∷ mark (codes "{") b ∷ []) (d ++ last)
-    (behind a inner (behind front (a ++ inner) h)) in
+    let m : Runs (d ++ last) = after (mark (codes ")") c ∷ mark (codes "{") b ∷ []) (d ++ last)
+    (after a inner (after front (a ++ inner) h)) in
     small_functions fs (before d last m)
 small_tree (one_constraint p w z {a = a} {more = more} d t) h =
     let front : List Lexeme = mark (codes "pragma") p ∷ mark (codes "cashscript") w ∷ [] in
-    small_tree t (behind (mark (codes ";") z ∷ []) more
-    (behind a (mark (codes ";") z ∷ more) (behind front (a ++ (mark (codes ";") z ∷ more)) h)))
+    small_tree t (after (mark (codes ";") z ∷ []) more
+    (after a (mark (codes ";") z ∷ more) (after front (a ++ (mark (codes ";") z ∷ more)) h)))
 small_tree (two_constraints p w z {a = a} {b = b} {more = more} d d' t) h =
     let front : List Lexeme = mark (codes "pragma") p ∷ mark (codes "cashscript") w ∷ [] in
     let last : List Lexeme = mark (codes ";") z ∷ more in
-    small_tree t (behind (mark (codes ";") z ∷ []) more
-    (behind b last (behind a (b ++ last) (behind front (a ++ (b ++ last)) h))))
+    small_tree t (after (mark (codes ";") z ∷ []) more
+    (after b last (after a (b ++ last) (after front (a ++ (b ++ last)) h))))
 
-pub all_small : (ts : List Lexeme) (tree : Tree) → tree_of ts ≡ Some tree → deepest_token ts ≡ None
+pub spelled_small : (ts : List Lexeme) (tree : Tree) → SpellsFile ts tree → first_too_deep ts ≡ None
     → AreSmall (tree_values tree)
-all_small ts tree read free = small_tree (tree_found ts tree read) (runs_short ts free)
+spelled_small ts tree spelled free = small_tree spelled (runs_short ts free)
+
+pub all_small : (ts : List Lexeme) (tree : Tree) → tree_of ts ≡ Some tree → first_too_deep ts ≡ None
+    → AreSmall (tree_values tree)
+all_small ts tree read free = spelled_small ts tree (tree_found ts tree read) free

@@ -3,8 +3,8 @@ use Rattle.std.specs.Prelude.{◌≡◌, ℕ, List, Option, Some, None, Result, 
 use Rattle.cash_base.specs.declared.place.Span.{Span}
 use Rattle.cash_parser.specs.declared.fault.ParseFault.{ParseFault}
 use Rattle.cash_parser.specs.declared.fault.ParseFault.TheVariants.{TooDeep, Syntax, Memory}
-use Rattle.cash_parser.specs.declared.fault.DepthRule.{DepthRule}
-use Rattle.cash_parser.specs.Lexemes.{Lexeme}
+use Rattle.cash_symbols.specs.declared.fault.DepthRule.{DepthRule}
+use Rattle.cash_symbols.specs.Lexemes.{Lexeme}
 use Rattle.cash_parser.specs.Files.{Tree, SpellsFile}
 
 -- no tree spells the lexemes

@@ -3,13 +3,12 @@ use Rattle.std.specs.Prelude.{ℕ, ◌==◌, List, [], ◌∷◌, length, Option
 use Rattle.cash_base.specs.declared.place.Span.{Span}
 use Rattle.cash_tree.specs.declared.Param.{Param}
 use Rattle.cash_tree.specs.declared.Constraint.{Constraint}
-use Rattle.cash_parser.specs.Words.{is_constraint_sign}
-use Rattle.cash_parser.specs.Lexemes.{Lexeme, Symbol, Version}
-use Rattle.cash_parser.specs.Fixpoint.{◌>>=◌, ReaderOf, fixed}
-use Rattle.cash_parser.specs.Grammar.{name_of, mark_value}
-use Rattle.cash_parser.specs.Reading.{eaten, taken, type_value}
-use Rattle.cash_parser.specs.Statements.{param_of}
-use Rattle.cash_parser.specs.StatementReading.{run, statement_reading}
+use Rattle.cash_symbols.specs.Words.{is_constraint_sign}
+use Rattle.cash_symbols.specs.Lexemes.{Lexeme, Symbol, Version}
+use Rattle.cash_symbols.specs.Fixpoint.{◌>>=◌, ReaderOf, fixed}
+use Rattle.cash_symbols.specs.Front.{name_of, mark_value, eaten, taken, type_value}
+use Rattle.cash_statements.specs.Statements.{param_of}
+use Rattle.cash_statements.specs.StatementReading.{run, statement_reading}
 use Rattle.cash_parser.specs.Files.{Tree, FunctionTree, bare_constraint, signed_constraint, function_of, contract_of, with_pragma}
 
 pub data Goal : Type 0 where
@@ -55,7 +54,7 @@ second_step first ts None = do
   z ← eaten (codes ";") second.1
   Some (first ∷ second.0 ∷ [], z.1)
 
--- behind the word `pragma`
+-- after the word `pragma`
 unfoldable pub pragma_at : List Lexeme → Option (List Constraint × List Lexeme)
 pragma_at ts = do
   w ← eaten (codes "cashscript") ts
@@ -92,7 +91,7 @@ params_step read ts None = do
   p ← param_at ts
   comma_step read p.0 p.1 (eaten (codes ",") p.1)
 
--- a name and the parameters behind it
+-- a name and the parameters after it
 abbrev pub head_at : Reader → List Lexeme → Option ((Span × List (Param Span)) × List Lexeme)
 head_at read ts = do
   n ← taken name_of ts

@@ -13,10 +13,10 @@ use Rattle.cash_tree.specs.declared.Param.{Param}
 use Rattle.cash_tree.specs.declared.Function.{Function}
 use Rattle.cash_tree.specs.declared.Constraint.{Constraint}
 use Rattle.cash_tree.specs.declared.Contract.{Contract}
-use Rattle.cash_parser.specs.Words.{is_constraint_sign}
-use Rattle.cash_parser.specs.Lexemes.{Lexeme, Type_, Name, Version}
-use Rattle.cash_parser.specs.Grammar.{lex, mark, across}
-use Rattle.cash_parser.specs.Statements.{Statement, param_of, SpellsRun}
+use Rattle.cash_symbols.specs.Words.{is_constraint_sign}
+use Rattle.cash_symbols.specs.Lexemes.{Lexeme, Type_, Name, Version}
+use Rattle.cash_symbols.specs.Front.{lex, mark, across}
+use Rattle.cash_statements.specs.Statements.{Statement, param_of, SpellsRun}
 
 -- a contract as it is spelled: names are spans, and there are no types of expressions yet
 abbrev pub Tree : Type 0
@@ -43,7 +43,7 @@ abbrev pub contract_of : Span → Span → List (Param Span) → List FunctionTr
 contract_of first name params functions end =
     record { name = name; span = across first end; pragmas = []; params = params; functions = functions }
 
--- the constraints of a pragma stand in front of those of the pragmas behind it
+-- the constraints of a pragma stand in front of those of the pragmas after it
 abbrev pub with_pragma : List Constraint → Tree → Tree
 with_pragma constraints tree =
     record {

@@ -1,13 +1,5 @@
-pub mod Words
-pub mod Lexemes
-pub mod Fixpoint
-pub mod Grammar
-pub mod Reading
-pub mod Statements
-pub mod StatementReading
 pub mod Files
 pub mod FileReading
-pub mod DepthRules
 pub mod Answer
-pub mod Nodes
 pub mod Inside
+pub mod Names

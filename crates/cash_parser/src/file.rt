@@ -3,19 +3,17 @@
 #![tactic(auto, using(crate::proofs::FileSound::file_unrolled))]
 
 ghost use Rattle.std.specs.Prelude.{◌≡◌, option_map};
-ghost use Rattle.cash_parser.specs.Lexemes.{lexemes};
-ghost use Rattle.cash_parser.specs.Grammar.{mark_value};
-ghost use Rattle.cash_parser.specs.Reading.{Gives, taken};
+ghost use Rattle.cash_symbols.specs.Lexemes.{lexemes};
+ghost use Rattle.cash_symbols.specs.Front.{mark_value, Gives, taken};
 ghost use Rattle.cash_parser.specs.Files;
 ghost use Rattle.cash_parser.specs.FileReading;
-ghost use Rattle.cash_parser.specs.FileReading.{file_reading, file, constraint_at, param_at, head_at, function_at};
-ghost use Rattle.cash_parser.specs.FileReading.{pragma_at, with_pragmas, tree_of};
+ghost use Rattle.cash_parser.specs.FileReading.{file_reading, file, constraint_at, param_at, head_at, function_at, pragma_at, with_pragmas, tree_of};
 
-use crate::fault::Stop;
-use crate::front::{across, eat, expect, mark_of, name, type_word};
-use crate::statements::{Param, param_of, several};
-use crate::words::is_constraint_sign;
 use cash_base::Span;
+use cash_statements::{Param, param_of, several};
+use cash_symbols::Stop;
+use cash_symbols::front::{across, eat, expect, mark_of, name, type_word};
+use cash_symbols::words::is_constraint_sign;
 use cash_tree::{Constraint, Contract, Token, TokenKind, Tree};
 use sqlite_items::Items;
 use std::alloc::Global;
@@ -24,7 +22,7 @@ use std::alloc::Global;
 type Function = cash_tree::Function<Span, ()>;
 
 /// The version in front, its span, and the tokens after it.
-#[tactic(auto, unfolding(crate::specs::Lexemes::symbol_at))]
+#[tactic(auto, unfolding(cash_symbols::specs::Lexemes::symbol_at))]
 fn version<'t>(source: &[u8], tokens: &'t [Token]) -> Option<(((), Span), &'t [Token])>
     ensures { option_map (λ x. (x.0, lexemes source.now x.1.now)) result
         ≡ taken FileReading.version_value (lexemes source.now tokens.now) }
@@ -91,7 +89,7 @@ fn constraint<'t>(source: &[u8], tokens: &'t [Token]) -> Result<(Constraint, &'t
     ))
 }
 
-/// The constraints of a pragma, behind its word.
+/// The constraints of a pragma, after its word.
 #[tactic(auto, unfolding(crate::specs::FileReading::pragma_at))]
 fn pragma<'t>(
     alloc: Global,
@@ -126,7 +124,7 @@ fn param<'t>(source: &[u8], tokens: &'t [Token]) -> Result<(Param, &'t [Token]),
     Ok((param_of(ty, place), rest))
 }
 
-/// Parameters behind an opening bracket, and the closing one.
+/// Parameters after an opening bracket, and the closing one.
 fn params<'t>(
     alloc: Global,
     source: &[u8],
@@ -138,22 +136,22 @@ fn params<'t>(
     let mut found = Items::new(alloc);
     let mut rest = tokens;
     loop {
-        if let Some((end, behind)) = eat(b")", source, rest) {
-            return Ok(((found, end), behind));
+        if let Some((end, after)) = eat(b")", source, rest) {
+            return Ok(((found, end), after));
         }
-        let (one, after) = param(source, rest)?;
+        let (one, past) = param(source, rest)?;
         found.push(one)?;
-        if let Some((_, behind)) = eat(b",", source, after) {
-            rest = behind;
-        } else if let Some((end, behind)) = eat(b")", source, after) {
-            return Ok(((found, end), behind));
+        if let Some((_, after)) = eat(b",", source, past) {
+            rest = after;
+        } else if let Some((end, after)) = eat(b")", source, past) {
+            return Ok(((found, end), after));
         } else {
-            return Err(Stop::Syntax { left: after.len() });
+            return Err(Stop::Syntax { left: past.len() });
         }
     }
 }
 
-/// A name and the parameters behind it.
+/// A name and the parameters after it.
 fn head<'t>(
     alloc: Global,
     source: &[u8],
@@ -195,7 +193,7 @@ fn function<'t>(
     ))
 }
 
-/// Functions behind an opening brace, and the closing one.
+/// Functions after an opening brace, and the closing one.
 fn functions<'t>(
     alloc: Global,
     source: &[u8],
@@ -207,16 +205,16 @@ fn functions<'t>(
     let mut found = Items::new(alloc);
     let mut rest = tokens;
     loop {
-        if let Some((end, behind)) = eat(b"}", source, rest) {
-            return Ok(((found, end), behind));
+        if let Some((end, after)) = eat(b"}", source, rest) {
+            return Ok(((found, end), after));
         }
-        let (one, behind) = function(alloc, source, rest)?;
+        let (one, after) = function(alloc, source, rest)?;
         found.push(one)?;
-        rest = behind;
+        rest = after;
     }
 }
 
-/// The contract behind pragmas with these constraints.
+/// The contract after pragmas with these constraints.
 fn contract<'t>(
     alloc: Global,
     pragmas: Items<Constraint>,
@@ -243,17 +241,17 @@ fn contract<'t>(
     ))
 }
 
-/// Pragmas and the contract behind them.
+/// Pragmas and the contract after them.
 fn file<'t>(alloc: Global, source: &[u8], tokens: &'t [Token]) -> Result<(Tree, &'t [Token]), Stop>
     ensures { Gives (λ x. (x.0, lexemes source.now x.1.now)) result
         (file_reading file (lexemes source.now tokens.now)) }
 {
     let mut pragmas = Items::new(alloc);
     let mut rest = tokens;
-    while let Some((_, behind)) = eat(b"pragma", source, rest) {
-        let (more, after) = pragma(alloc, source, behind)?;
+    while let Some((_, after)) = eat(b"pragma", source, rest) {
+        let (more, past) = pragma(alloc, source, after)?;
         pragmas.append(more)?;
-        rest = after;
+        rest = past;
     }
     contract(alloc, pragmas, source, rest)
 }

@@ -1,16 +1,18 @@
 //! The tree of the tokens of a source.
 
-ghost use Rattle.std.specs.Prelude.{◌≡◌, ◌≤◌, ◌⊎◌, List, length, IfOk};
-ghost use Rattle.cash_parser.specs.Lexemes.{Lexeme, lexemes};
-ghost use Rattle.cash_parser.specs.DepthRules;
-ghost use Rattle.cash_parser.specs.Files.{Tree as Spelled, SpellsFile};
-ghost use Rattle.cash_parser.specs.Nodes.{AreSmall, tree_values};
-ghost use Rattle.cash_parser.specs.Inside.{StandInOrder, AreInside, tree_spans};
+ghost use Rattle.std.specs.Prelude.{◌≡◌, ◌≤◌, length, IfOk};
+ghost use Rattle.cash_base.specs.Source.{AreInside};
+ghost use Rattle.cash_symbols.specs.Lexemes.{lexemes};
+ghost use Rattle.cash_symbols.specs.DepthRules;
+ghost use Rattle.cash_parser.specs.Files.{SpellsFile};
+ghost use Rattle.cash_tree.specs.Nodes.{AreSmall, tree_values};
+ghost use Rattle.cash_parser.specs.Inside.{StandInOrder};
+ghost use Rattle.cash_tree.specs.Spans.{itself, tree_spans};
 ghost use Rattle.cash_parser.specs.Answer.{IsNone, OnSyntax, IsDeep};
 
-use crate::depth::deepest_token;
-use crate::fault::{ParseFault, Stop};
+use crate::fault::ParseFault;
 use crate::file::tree;
+use cash_symbols::{Stop, first_too_deep};
 use cash_tree::{Token, Tree};
 use std::alloc::Global;
 
@@ -42,17 +44,17 @@ pub fn parse(alloc: Global, source: &str, tokens: &[Token]) -> Result<Tree, Pars
     // Only where no tree is there is no answer, unless a token is too deep or memory runs out.
     ensures only { OnSyntax result (λ token. IsNone (lexemes source.now tokens.now)) }
     // A token that is too deep is named, and nothing else is answered where there is one, unless memory runs out.
-    ensures deep { IsDeep result (DepthRules.deepest_token (lexemes source.now tokens.now)) }
+    ensures deep { IsDeep result (DepthRules.first_too_deep (lexemes source.now tokens.now)) }
     // Each expression of an answered tree has at most 1,000 nodes, since each node has a token of its own.
     ensures small { IfOk result (λ tree. AreSmall (tree_values tree)) }
     // Where the tokens stand in order in the source, as those of its text do, all spans of an answered tree lie in it.
     ensures inside { IfOk result (λ tree. StandInOrder 0 tokens.now (length source.now)
-        → AreInside (length source.now) (tree_spans tree)) }
+        → AreInside (length source.now) (tree_spans itself tree)) }
     // The token where the parser stopped is one of them, or their end.
     ensures place { OnSyntax result (λ token. token ≤ length tokens.now) }
 {
     let source = source.as_bytes();
-    if let Some((rule, span)) = deepest_token(source, tokens) {
+    if let Some((rule, span)) = first_too_deep(source, tokens) {
         return Err(ParseFault::TooDeep { rule, span });
     }
     match tree(alloc, source, tokens) {
@@ -63,9 +65,3 @@ pub fn parse(alloc: Global, source: &str, tokens: &[Token]) -> Result<Tree, Pars
         Err(Stop::Memory) => Err(ParseFault::Memory),
     }
 }
-
-/// A list of tokens with their texts spells one tree or none.
-pub fn one_tree()
-    ensures one { (ts : List Lexeme) (a b : Spelled) → SpellsFile ts a → SpellsFile ts b → a ≡ b }
-    ensures either { (ts : List Lexeme) → ((tree : Spelled) × SpellsFile ts tree) ⊎ IsNone ts }
-{}

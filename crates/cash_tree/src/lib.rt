@@ -5,8 +5,6 @@
 #![tactic(auto)]
 
 mod copies;
-#[cfg(test)]
-mod tests;
 
 pub use cash_base::{Look0, LookAt, Slot, Span};
 use sqlite_items::{Boxed, Items};
@@ -262,7 +260,7 @@ pub enum BinaryOp {
     Mod,
 }
 
-/// The built-in functions, and behind them the instantiations, which stand behind `new`.
+/// The built-in functions, and after them the instantiations, which stand after `new`.
 #[derive(Clone, Copy, Debug, PartialEq, Eq)]
 pub enum Builtin {
     Abs,

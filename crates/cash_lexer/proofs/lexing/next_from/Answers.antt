@@ -5,13 +5,13 @@ use Rattle.cash_lexer.specs.declared.piece.Piece.{Piece}
 use Rattle.cash_lexer.specs.declared.piece.Piece.TheVariants.{Gap, Known, Flawed}
 use Rattle.cash_lexer.specs.Rows.{piece_of}
 use Rattle.cash_lexer.specs.Tokens.{fault_of}
-use Rattle.cash_lexer.proofs.Found.{gap_len, known_len, flawed_len, first_none, first_known, first_flawed, first_behind}
+use Rattle.cash_lexer.proofs.Found.{gap_len, known_len, flawed_len, first_none, first_known, first_flawed, first_after}
 use Rattle.cash_lexer.proofs.lexing.next_from.Goals as goal
 use Rattle.cash_lexer.proofs.lexing.next_from.Goals.{In-Some-Gap, In-Some-Known, In-Some-Flawed}
 
 -- what the rest begins with
 piece_is : {o p : Option Piece} {rest : List ℕ} (source : List ℕ) (at : ℕ) → o ≡ piece_of rest → rest ≡ drop at source → o ≡ p → piece_of (drop at source) ≡ p
-piece_is source at found behind is = sym (found ∙ ap piece_of behind) ∙ is
+piece_is source at found after is = sym (found ∙ ap piece_of after) ∙ is
 
 gap_is : (c : In-Some-Gap) → piece_of (drop c.loop-len.at c.args.source.now) ≡ Some (Gap c.in-Some-Gap.len)
 gap_is c = piece_is c.args.source.now c.loop-len.at c.piece.ensures c.from_place.ensures (c.in-Some-Gap.is ∙ ap Some c.in-Some-Gap.field-0-is)
@@ -40,7 +40,7 @@ loop-len-preserved c =
     let len = gap_len (drop c.loop-len.at c.args.source.now) c.in-Some-Gap.len (gap_is c) in
     record {
       within = omega (arith, length-drop c.loop-len.at c.args.source.now, len, c.loop-len.invariant.within);
-      first = first_behind c.loop-len.at c.args.source.now c.in-Some-Gap.len _ (gap_is c) c.loop-len.invariant.first;
+      first = first_after c.loop-len.at c.args.source.now c.in-Some-Gap.len _ (gap_is c) c.loop-len.invariant.first;
     }
 
 pub span_at-span-requires : goal.span_at-span-requires

@@ -1,5 +1,5 @@
 use Rattle.std.proofs.Common.{◌≡◌, length}
-use Rattle.cash_parser.specs.Lexemes.{lexemes}
+use Rattle.cash_symbols.specs.Lexemes.{lexemes}
 use Rattle.cash_parser.specs.FileReading.{functions, file_reading}
 use Rattle.cash_parser.proofs.FileLoop.{with_front}
 use Rattle.cash_parser.proofs.file.functions.Given as goal

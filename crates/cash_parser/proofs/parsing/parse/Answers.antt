@@ -1,5 +1,5 @@
 use Rattle.std.proofs.Common.{length, sym}
-use Rattle.cash_parser.specs.Lexemes.{lexemes}
+use Rattle.cash_symbols.specs.Lexemes.{lexemes}
 use Rattle.cash_parser.proofs.SmallTree.{all_small}
 use Rattle.cash_parser.proofs.InsideTree.{tree_inside}
 use Rattle.cash_parser.proofs.parsing.parse.Goals as goal

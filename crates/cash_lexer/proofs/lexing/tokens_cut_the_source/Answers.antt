@@ -1,5 +1,0 @@
-use Rattle.cash_lexer.proofs.Cut.{lexed_cuts}
-use Rattle.cash_lexer.proofs.lexing.tokens_cut_the_source.Goals as goal
-
-pub returns : goal.returns
-returns c = lexed_cuts

@@ -1,0 +1,3 @@
+pub mod StatementSound
+pub mod StatementComplete
+pub mod StatementLoop

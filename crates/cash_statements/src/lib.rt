@@ -1,0 +1,6 @@
+//! Parses the statements that tokens spell.
+#![tactic(auto)]
+
+mod statements;
+
+pub use statements::{Param, param_of, several};

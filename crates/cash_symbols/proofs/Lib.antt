@@ -1,0 +1,2 @@
+pub mod Fixpoint
+pub mod Steps

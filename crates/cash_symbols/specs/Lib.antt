@@ -1,0 +1,5 @@
+pub mod Words
+pub mod Lexemes
+pub mod Fixpoint
+pub mod Front
+pub mod DepthRules
