@@ -1,6 +1,6 @@
 -- What reading an expression of each kind is.
 use Rattle.std.proofs.Common.{◌≡◌, ◌∙◌, ap, refl, ℕ, Bool, List, [], map, Option, Ok, ℤ, rules}
-use Rattle.std.specs.Prelude.{option_map, Some, Err}
+use Rattle.std.specs.Prelude.{option_map, Some, None, Err}
 use Rattle.cash_base.specs.declared.place.Span.{Span}
 use Rattle.cash_base.specs.declared.look.Look0.{Look0}
 use Rattle.cash_base.specs.declared.look.LookAt.{LookAt}
@@ -9,15 +9,19 @@ use Rattle.cash_tree.specs.declared.UnaryOp.{UnaryOp}
 use Rattle.cash_tree.specs.declared.BinaryOp.{BinaryOp}
 use Rattle.cash_tree.specs.declared.Callee.{Callee}
 use Rattle.cash_tree.specs.declared.ExprKind.TheVariants as nodes
-use Rattle.cash_tree.specs.declared.ExprKind.TheFolds.{the_lemmas}
-use Rattle.cash_names.specs.Names.{Names, slot_at}
-use Rattle.cash_names.specs.Wants.{is_known}
+use Rattle.cash_tree.specs.declared.ExprKind.TheOpen.{ExprKind-F}
+use Rattle.cash_tree.specs.declared.ExprKind.TheViews.{roll-ExprKind}
+use Rattle.cash_tree.specs.declared.ExprKind.TheFolds.{fold-roll-ExprKind, map-ExprKind, the_lemmas}
+use Rattle.name_scopes.specs.Names.{Names, slot_at}
+use Rattle.name_scopes.specs.Wants.{is_known}
 use Rattle.cash_tree.specs.declared.StmtKind.{StmtKind}
 use Rattle.cash_tree.specs.declared.StmtKind.TheVariants as stmts
 use Rattle.cash_tree.specs.declared.StmtKind.TheFolds.{the_lemmas as stmt_lemmas}
 use Rattle.cash_names.specs.Expressions.{Expression, Kind, NamedExpr, NamedKind}
 use Rattle.cash_names.specs.Outline.{Statement, NamedStmt, NamedStmtKind}
-use Rattle.cash_names.specs.Reading.{Answer, ◌>>=◌, given, each_from, other_reading, callee_reading, reading_of, reading_of_kind, block_reading, other_block, reading_of_stmt, reading_of_stmt_kind}
+use Rattle.cash_base.specs.Failing.{◌>>=◌}
+use Rattle.name_scopes.specs.Uses.{Answer, given}
+use Rattle.cash_names.specs.Reading.{Reading, kind_reading, expr_reading, each_from, other_reading, callee_reading, reading_of, reading_of_kind, block_reading, other_block, reading_of_stmt, reading_of_stmt_kind}
 
 abbrev named : NamedKind → Span → NamedExpr
 named kind span = record { kind = kind; ty = tt; span = span }
@@ -28,6 +32,13 @@ some x = Ok (Some x)
 
 abbrev pub both_of : {A : Type 0} → A → Names → Answer (A × Names)
 both_of x names = Ok (x, names)
+
+at_kind : (source : List ℕ) (y : ExprKind-F Span (Unit {0}) Kind Expression) (names : Names)
+    → reading_of_kind source (roll-ExprKind Span (Unit {0}) y) names
+    ≡ kind_reading source (map-ExprKind Span (Unit {0}) Kind Expression (Reading NamedKind) (Reading NamedExpr) (reading_of_kind source) (reading_of source) y) names
+unfolding reading_of reading_of_kind
+at_kind source y names =
+    ap (λ r. r names) (fold-roll-ExprKind Span (Unit {0}) (Reading NamedKind) (Reading NamedExpr) (kind_reading source) expr_reading y)
 
 pub at_node : (source : List ℕ) (e : Expression) (names : Names)
     → reading_of source e names ≡ (reading_of_kind source e.kind names >>= (λ k. Ok (named k e.span)))
@@ -92,8 +103,9 @@ at_index source e n names = search (rules, the_lemmas)
 
 pub at_cast : (source : List ℕ) (to : Ty) (e : Expression) (size : Option Expression) (names : Names) → reading_of_kind source (nodes.Cast to e size) names
     ≡ (reading_of source e names >>= (λ v. other_reading (option_map (reading_of source) size) names >>= (λ s. Ok (nodes.Cast to v s))))
-unfolding reading_of reading_of_kind
-at_cast source to e size names = search (rules, the_lemmas)
+unfolding reading_of reading_of_kind roll-ExprKind denote.Hole.Carrier.roll
+at_cast source to e None names = at_kind source (ExprKind-F.Cast to e None) names
+at_cast source to e (Some size) names = at_kind source (ExprKind-F.Cast to e (Some size)) names
 
 pub at_call : (source : List ℕ) (callee : Callee) (es : List Expression) (names : Names) → reading_of_kind source (nodes.Call callee es) names
     ≡ (callee_reading callee >>= (λ u. each_from [] (map (reading_of source) es) names >>= (λ vs. Ok (nodes.Call callee vs))))

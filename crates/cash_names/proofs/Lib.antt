@@ -1,10 +1,12 @@
-pub mod Granted
 pub mod Arms
 pub mod Places
 pub mod Run
 pub mod StmtPlaces
 pub mod StmtNamed
 pub mod Whole
+pub mod Rows
 pub mod Kept
-pub mod Scoping
-pub mod Requirement
+pub mod Inside
+pub mod TreeKept
+pub mod Numbered
+pub mod Used

@@ -10,12 +10,13 @@ use Rattle.cash_tree.specs.declared.ExprKind.TheVariants as nodes
 use Rattle.cash_tree.specs.declared.ExprKind.TheOpen.{ExprKind-F, Expr-F}
 use Rattle.cash_tree.specs.declared.ExprKind.TheViews.{roll-Expr, roll-ExprKind}
 use Rattle.cash_tree.specs.declared.ExprKind.TheFolds.{fold-ExprKind, ind-Expr, fold-roll-Expr, fold-roll-ExprKind, map-ExprKind}
-use Rattle.cash_names.specs.Names.{Names, slot_at}
-use Rattle.cash_names.specs.Wants.{Want, is_known, first_refused}
+use Rattle.name_scopes.specs.Names.{Names, slot_at}
+use Rattle.name_scopes.specs.Wants.{Want, is_known, first_refused}
 use Rattle.cash_names.specs.Expressions.{Expression, Kind, NamedExpr, NamedKind, joined, callee_wants, kind_wants, node_wants, wants_of, kind_with_slots, node_with_slots, with_slots}
-use Rattle.cash_names.specs.Reading.{◌>>=◌, Reading, each_from, other_reading, callee_reading, kind_reading, expr_reading, reading_of, reading_of_kind}
+use Rattle.cash_base.specs.Failing.{◌>>=◌}
+use Rattle.cash_names.specs.Reading.{Reading, each_from, other_reading, callee_reading, kind_reading, expr_reading, reading_of, reading_of_kind}
 use Rattle.cash_names.specs.Scopes.{NamesExpr}
-use Rattle.cash_names.proofs.Granted.{judged, asked, both, last, granted_ok, granted_none, are_granted, none_refused}
+use Rattle.name_scopes.proofs.Granted.{judged, asked, both, last, granted_ok, granted_none, are_granted, none_refused}
 
 abbrev kind_wants_of : Names → Kind → List Want
 kind_wants_of names = fold-ExprKind Span (Unit {0}) (List Want) (List Want) (kind_wants names) node_wants

@@ -2,10 +2,11 @@
 use Rattle.std.proofs.Common.{◌≡◌, ◌∙◌, ap, sym, ℕ, List, [], ◌∷◌, ◌++◌, map, append_assoc}
 use Rattle.std.specs.Prelude.{Ok}
 use Rattle.std.proofs.lemmas.List.{append-nil}
-use Rattle.cash_names.specs.Names.{Names}
+use Rattle.name_scopes.specs.Names.{Names}
 use Rattle.cash_names.specs.Outline.{Outline, Scopes, run}
-use Rattle.cash_names.specs.Reading.{Answer, Running, run_from}
-use Rattle.cash_names.proofs.Granted.{judged, both}
+use Rattle.name_scopes.specs.Uses.{Answer, Running}
+use Rattle.cash_names.specs.Reading.{run_from}
+use Rattle.name_scopes.proofs.Granted.{judged, both}
 
 abbrev pub verdict : {A : Type 0} → List ℕ → Outline A → Answer A
 verdict source o = judged source o.wants o.value

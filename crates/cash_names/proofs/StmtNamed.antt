@@ -11,28 +11,30 @@ use Rattle.cash_tree.specs.declared.StmtKind.TheVariants as nodes
 use Rattle.cash_tree.specs.declared.StmtKind.TheOpen.{StmtKind-F, Stmt-F}
 use Rattle.cash_tree.specs.declared.StmtKind.TheViews.{roll-Stmt, roll-StmtKind}
 use Rattle.cash_tree.specs.declared.StmtKind.TheFolds.{ind-Stmt, fold-roll-Stmt, fold-roll-StmtKind, map-StmtKind, the_lemmas}
-use Rattle.cash_names.specs.Names.{Names, no_names, opened, most_params, most_functions, most_definitions, declared, slot, slot_at, behind}
+use Rattle.name_scopes.specs.Names.{Names, no_names, opened, most_params, most_functions, most_definitions, declared, slot, slot_at, after, with_variable}
 use Rattle.cash_base.specs.Source.{text_at}
-use Rattle.cash_names.specs.Wants.{is_admitted, is_new, is_variable, has_function, IsGranted, AreGranted, first_refused, granted}
+use Rattle.name_scopes.specs.Wants.{is_admitted, is_new, is_variable, has_function, IsGranted, AreGranted, first_refused, granted}
 use Rattle.cash_names.specs.Expressions.{Expression, NamedExpr}
-use Rattle.cash_names.specs.Outline.{Statement, NamedStmt, NamedStmtKind, FunctionTree, NamedFunction, Tree, NamedTree, with_variable, slotted, is_without}
-use Rattle.cash_names.specs.Reading.{Answer, ◌>>=◌, Running, check, check_two, introduction, definition_reading, pair_reading, run_from, block_reading, other_block, reading_of, param_reading, stmt_kind_reading, stmt_reading, reading_of_stmt, reading_of_stmt_kind, function_reading, functions_reading, tree_reading}
+use Rattle.cash_names.specs.Outline.{Statement, NamedStmt, NamedStmtKind, FunctionTree, NamedFunction, Tree, NamedTree, slotted, is_without}
+use Rattle.cash_base.specs.Failing.{◌>>=◌}
+use Rattle.name_scopes.specs.Uses.{Answer, Running, check, check_two, introduction}
+use Rattle.cash_names.specs.Reading.{definition_reading, pair_reading, run_from, block_reading, other_block, reading_of, param_reading, stmt_kind_reading, stmt_reading, reading_of_stmt, reading_of_stmt_kind, function_reading, functions_reading, tree_reading}
 use Rattle.cash_names.specs.Scopes.{NamesExpr, parsed, named, NamesStmt, define, pair, assign, time, age, require, if_only, if_else, NamesAll, done, step, NamesParams, no_param, next_param, function_of, NamesFunctions, no_function, next_function, contract_of, IsNamed, contract}
-use Rattle.cash_names.proofs.Granted.{ok, none_refused, are_granted, ok_bind, ok_same, ok_inner, granted_ok, granted_none, given_bind, given_only, is_given}
+use Rattle.name_scopes.proofs.Granted.{ok, none_refused, are_granted, ok_bind, ok_same, ok_inner, granted_ok, granted_none, given_bind, given_only, is_given}
 use Rattle.cash_names.proofs.Places.{complete, sound}
 
 -- a block's names end with it
 abbrev closed : Names → Answer (List NamedStmt × Names) → Answer (List NamedStmt × Names)
 closed names r = do
   all ← r
-  Ok (all.0, behind names all.1)
+  Ok (all.0, after names all.1)
 
 abbrev some_block : Answer (List NamedStmt × Names) → Answer (Option (List NamedStmt) × Names)
 some_block r = do
   all ← r
   Ok (Some all.0, all.1)
 
--- an `if` from behind its second block on, from its second, and whole
+-- an `if` from after its second block on, from its second, and whole
 abbrev whole : Span → NamedExpr → List NamedStmt → Answer (Option (List NamedStmt) × Names) → Answer (NamedStmt × Names)
 whole span t ts r = do
   n ← r
@@ -52,18 +54,18 @@ if_reading : (source : List ℕ) (s : Statement) (e : Expression) (ss : List Sta
     → reading_of_stmt source s names ≡ ifs source names s.span (reading_of source e names) (map (reading_of_stmt source) ss) (option_map (map (reading_of_stmt source)) more)
 if_reading source s e ss more names is = search (rules, the_lemmas)
 
-if_done : (source : List ℕ) (names after : Names) (span : Span) (test : Answer NamedExpr) (part : List (Running NamedStmt)) (more : Option (List (Running NamedStmt)))
+if_done : (source : List ℕ) (names later : Names) (span : Span) (test : Answer NamedExpr) (part : List (Running NamedStmt)) (more : Option (List (Running NamedStmt)))
     (x : NamedExpr) (ts : List NamedStmt) (inner : Names) (rest : Option (List NamedStmt))
-    → test ≡ Ok x → run_from [] part names ≡ Ok (ts, inner) → other_block more (behind names inner) ≡ Ok (rest, after)
-    → ifs source names span test part more ≡ Ok (named (nodes.If x ts rest) span, after)
-if_done source names after span test part more x ts inner rest p q r =
+    → test ≡ Ok x → run_from [] part names ≡ Ok (ts, inner) → other_block more (after names inner) ≡ Ok (rest, later)
+    → ifs source names span test part more ≡ Ok (named (nodes.If x ts rest) span, later)
+if_done source names later span test part more x ts inner rest p q r =
     ap (λ test. ifs source names span test part more) p
     ∙ ap (λ all. closed names all >>= (λ y. no_step more span x y)) q
     ∙ ap (λ n. whole span x ts n) r
 
 mutual
-  pub stmt_complete : (source : List ℕ) (names : Names) (s : Statement) (t : NamedStmt) (after : Names)
-      → NamesStmt source names s t after → reading_of_stmt source s names ≡ Ok (t, after)
+  pub stmt_complete : (source : List ℕ) (names : Names) (s : Statement) (t : NamedStmt) (later : Names)
+      → NamesStmt source names s t later → reading_of_stmt source s names ≡ Ok (t, later)
   stmt_complete source _ _ _ _ (define names ty constant name place e x span new h) =
       let p = is_given source (is_new names name) (tt {0}) new in
       let q = complete source names e x h in
@@ -87,22 +89,22 @@ mutual
       let p = complete source names e x h in
       let q = all_complete source names ss ts inner k [] in
       if_reading source (parsed (nodes.If e ss None) span) e ss None names refl
-      ∙ if_done source names (behind names inner) span (reading_of source e names) (map (reading_of_stmt source) ss) None x ts inner None p q refl
+      ∙ if_done source names (after names inner) span (reading_of source e names) (map (reading_of_stmt source) ss) None x ts inner None p q refl
   stmt_complete source _ _ _ _ (if_else names inner inner' e x ss ss' ts ts' span h k m) =
       let p = complete source names e x h in
       let q = all_complete source names ss ts inner k [] in
-      let r = all_complete source (behind names inner) ss' ts' inner' m [] in
+      let r = all_complete source (after names inner) ss' ts' inner' m [] in
       if_reading source (parsed (nodes.If e ss (Some ss')) span) e ss (Some ss') names refl
-      ∙ if_done source names (behind (behind names inner) inner') span (reading_of source e names) (map (reading_of_stmt source) ss) (Some (map (reading_of_stmt source) ss')) x ts inner (Some ts') p q
-      (ap (λ r. some_block (closed (behind names inner) r)) r)
+      ∙ if_done source names (after (after names inner) inner') span (reading_of source e names) (map (reading_of_stmt source) ss) (Some (map (reading_of_stmt source) ss')) x ts inner (Some ts') p q
+      (ap (λ r. some_block (closed (after names inner) r)) r)
 
-  pub all_complete : (source : List ℕ) (names : Names) (ss : List Statement) (ts : List NamedStmt) (after : Names)
-      → NamesAll source names ss ts after → (before : List NamedStmt)
-      → run_from before (map (reading_of_stmt source) ss) names ≡ Ok (before ++ ts, after)
+  pub all_complete : (source : List ℕ) (names : Names) (ss : List Statement) (ts : List NamedStmt) (later : Names)
+      → NamesAll source names ss ts later → (before : List NamedStmt)
+      → run_from before (map (reading_of_stmt source) ss) names ≡ Ok (before ++ ts, later)
   all_complete source _ _ _ _ (done names) before = ap (λ l. Ok (l, names)) (sym (append-nil before))
-  all_complete source _ _ _ _ (step names middle after s ss t ts h hs) before =
+  all_complete source _ _ _ _ (step names middle later s ss t ts h hs) before =
       ap (λ r. r >>= (λ x. run_from (before ++ x.0 ∷ []) (map (reading_of_stmt source) ss) x.1)) (stmt_complete source names s t middle h)
-      ∙ all_complete source middle ss ts after hs (before ++ t ∷ []) ∙ ap (λ l. Ok (l, after)) (append_assoc before (t ∷ []) ts)
+      ∙ all_complete source middle ss ts later hs (before ++ t ∷ []) ∙ ap (λ l. Ok (l, later)) (append_assoc before (t ∷ []) ts)
 
 introduced : (source : List ℕ) (span : Span) (names : Names) → IsGranted source (is_new names span)
     → introduction source span names ≡ Ok (slot names.next, with_variable source span names)
@@ -115,18 +117,18 @@ param_of source p r = do
   x ← r
   Ok (slotted p x.0.0, x.1)
 
-params_complete : (source : List ℕ) (names : Names) (ps : List (Param Span)) (qs : List (Param Slot)) (after : Names)
-    → NamesParams source names ps qs after → (before : List (Param Slot))
-    → run_from before (map (param_reading source) ps) names ≡ Ok (before ++ qs, after)
+params_complete : (source : List ℕ) (names : Names) (ps : List (Param Span)) (qs : List (Param Slot)) (later : Names)
+    → NamesParams source names ps qs later → (before : List (Param Slot))
+    → run_from before (map (param_reading source) ps) names ≡ Ok (before ++ qs, later)
 params_complete source _ _ _ _ (no_param names) before = ap (λ l. Ok (l, names)) (sym (append-nil before))
-params_complete source _ _ _ _ (next_param names after p ps qs new h) before =
+params_complete source _ _ _ _ (next_param names later p ps qs new h) before =
     let q = slotted p names.next in
     let middle = with_variable source p.name names in
     let rest : Param Slot × Names → Answer (List (Param Slot) × Names) = (λ x. run_from (before ++ x.0 ∷ []) (map (param_reading source) ps) x.1) in
     let z : Param Slot × Names = (q, middle) in
     let one : param_reading source p names ≡ Ok z = ap (λ r. param_of source p r) (introduced source p.name names new) in
     ap (λ r. r >>= rest) one
-    ∙ params_complete source middle ps qs after h (before ++ q ∷ []) ∙ ap (λ l. Ok (l, after)) (append_assoc before (q ∷ []) qs)
+    ∙ params_complete source middle ps qs later h (before ++ q ∷ []) ∙ ap (λ l. Ok (l, later)) (append_assoc before (q ∷ []) qs)
 
 function_complete : (source : List ℕ) (first functions inner last : Names) (name span : Span) (ps : List (Param Span))
     (qs : List (Param Slot)) (ss : List Statement) (ts : List NamedStmt)
@@ -139,14 +141,14 @@ function_complete source first functions inner last name span ps qs ss ts new h 
     let r = all_complete source (opened most_definitions inner) ss ts last k [] in
     search rules
 
-functions_complete : (source : List ℕ) (first functions : Names) (fs : List FunctionTree) (gs : List NamedFunction) (after : Names)
-    → NamesFunctions source first functions fs gs after → (before : List NamedFunction)
-    → run_from before (map (function_reading source first) fs) functions ≡ Ok (before ++ gs, after)
+functions_complete : (source : List ℕ) (first functions : Names) (fs : List FunctionTree) (gs : List NamedFunction) (later : Names)
+    → NamesFunctions source first functions fs gs later → (before : List NamedFunction)
+    → run_from before (map (function_reading source first) fs) functions ≡ Ok (before ++ gs, later)
 functions_complete source first _ _ _ _ (no_function functions) before = ap (λ l. Ok (l, functions)) (sym (append-nil before))
-functions_complete source first _ _ _ _ (next_function functions after inner last name span ps qs ss ts fs gs new h k m) before =
+functions_complete source first _ _ _ _ (next_function functions later inner last name span ps qs ss ts fs gs new h k m) before =
     let g : NamedFunction = function_of name span qs ts in
     ap (λ r. r >>= (λ x. run_from (before ++ x.0 ∷ []) (map (function_reading source first) fs) x.1)) (function_complete source first functions inner last name span ps qs ss ts new h k)
-    ∙ functions_complete source first (with_variable source name functions) fs gs after m (before ++ g ∷ []) ∙ ap (λ l. Ok (l, after)) (append_assoc before (g ∷ []) gs)
+    ∙ functions_complete source first (with_variable source name functions) fs gs later m (before ++ g ∷ []) ∙ ap (λ l. Ok (l, later)) (append_assoc before (g ∷ []) gs)
 
 pub tree_complete : (source : List ℕ) (tree : Tree) (t : NamedTree) → IsNamed source tree t → tree_reading source tree ≡ Ok t
 tree_complete source _ _ (contract ctor functions name span pragmas ps qs f fs gs admitted h k) =
@@ -187,14 +189,14 @@ run_sound source (s ∷ ss) before names z is =
     let r = run_sound source ss (before ++ b.0.0 ∷ []) b.0.1 z b.2 in
     (b.0.0 ∷ r.0, r.1 ∙ append_assoc before (b.0.0 ∷ []) r.0, step names b.0.1 z.1 s.0 (map (λ s. s.0) ss) b.0.0 r.0 (s.1 names b.0 b.1) r.2)
 
--- a block: its statements, and the names behind it
+-- a block: its statements, and the names after it
 block_sound : (source : List ℕ) (ss : List (Stmts source)) (names : Names) (z : List NamedStmt × Names)
     → block_reading (map (reading_of_stmt source) (map (λ s. s.0) ss)) names ≡ Ok z
-    → (inner : Names) × (z.1 ≡ behind names inner) × NamesAll source names (map (λ s. s.0) ss) z.0 inner
+    → (inner : Names) × (z.1 ≡ after names inner) × NamesAll source names (map (λ s. s.0) ss) z.0 inner
 block_sound source ss names z is =
-    let b = ok_bind (run_from [] (map (reading_of_stmt source) (map (λ s. s.0) ss)) names) (λ all. Ok (all.0, behind names all.1)) z is in
+    let b = ok_bind (run_from [] (map (reading_of_stmt source) (map (λ s. s.0) ss)) names) (λ all. Ok (all.0, after names all.1)) z is in
     let r = run_sound source ss [] names b.0 b.1 in
-    let e = ok_same (b.0.0, behind names b.0.1) z b.2 in
+    let e = ok_same (b.0.0, after names b.0.1) z b.2 in
     (b.0.1, sym (ap (λ z. z.1) e), subst (λ ts. NamesAll source names (map (λ s. s.0) ss) ts b.0.1) (sym r.1 ∙ ap (λ z. z.0) e) r.2)
 
 abbrev Step : List ℕ → Names → StmtKind Span (Unit {0}) → Span → NamedStmtKind × Names → Type 0
@@ -248,8 +250,8 @@ kind_step source (StmtKind-F.If e ss None) names k span is =
     let p = ok_bind (reading_of source e names) (λ t. block_reading read names >>= (λ y. Ok (nodes.If t y.0 None, y.1))) k is in
     let q = ok_bind (block_reading read names) (λ y. Ok (nodes.If p.0 y.0 None, y.1)) k p.2 in
     let b = block_sound source ss names q.0 q.1 in
-    let z : NamedStmtKind × Names = (nodes.If p.0 q.0.0 None, behind names b.0) in
-    let same = ap (λ after. (nodes.If p.0 q.0.0 None, after)) (sym b.1) ∙ ok_same (nodes.If p.0 q.0.0 None, q.0.1) k q.2 in
+    let z : NamedStmtKind × Names = (nodes.If p.0 q.0.0 None, after names b.0) in
+    let same = ap (λ later. (nodes.If p.0 q.0.0 None, later)) (sym b.1) ∙ ok_same (nodes.If p.0 q.0.0 None, q.0.1) k q.2 in
     subst (Step source names (nodes.If e (map (λ s. s.0) ss) None) span) {x = z} same (if_only names b.0 e p.0 (map (λ s. s.0) ss) q.0.0 span (sound source names e p.0 p.1) b.2)
 kind_step source (StmtKind-F.If e ss (Some ss')) names k span is =
     let read = map (reading_of_stmt source) (map (λ s. s.0) ss) in
@@ -259,11 +261,11 @@ kind_step source (StmtKind-F.If e ss (Some ss')) names k span is =
     let r = ok_bind (other_block (Some read') q.0.1) (λ n. Ok (nodes.If p.0 q.0.0 n.0, n.1)) k q.2 in
     let o = ok_bind (block_reading read' q.0.1) (λ all. Ok (Some all.0, all.1)) r.0 r.1 in
     let b = block_sound source ss names q.0 q.1 in
-    let here : block_reading read' (behind names b.0) ≡ Ok o.0 = ap (λ names. block_reading read' names) (sym b.1) ∙ o.1 in
-    let c = block_sound source ss' (behind names b.0) o.0 here in
+    let here : block_reading read' (after names b.0) ≡ Ok o.0 = ap (λ names. block_reading read' names) (sym b.1) ∙ o.1 in
+    let c = block_sound source ss' (after names b.0) o.0 here in
     let made = ok_same (Some o.0.0, o.0.1) r.0 o.2 in
-    let z : NamedStmtKind × Names = (nodes.If p.0 q.0.0 (Some o.0.0), behind (behind names b.0) c.0) in
-    let same = ap (λ after. (nodes.If p.0 q.0.0 (Some o.0.0), after)) (sym c.1) ∙ ap (λ n. (nodes.If p.0 q.0.0 n.0, n.1)) made ∙ ok_same (nodes.If p.0 q.0.0 r.0.0, r.0.1) k r.2 in
+    let z : NamedStmtKind × Names = (nodes.If p.0 q.0.0 (Some o.0.0), after (after names b.0) c.0) in
+    let same = ap (λ later. (nodes.If p.0 q.0.0 (Some o.0.0), later)) (sym c.1) ∙ ap (λ n. (nodes.If p.0 q.0.0 n.0, n.1)) made ∙ ok_same (nodes.If p.0 q.0.0 r.0.0, r.0.1) k r.2 in
     subst (Step source names (nodes.If e (map (λ s. s.0) ss) (Some (map (λ s. s.0) ss'))) span) {x = z} same
     (if_else names b.0 c.0 e p.0 (map (λ s. s.0) ss) (map (λ s. s.0) ss') q.0.0 o.0.0 span (sound source names e p.0 p.1) b.2 c.2)
 
@@ -322,23 +324,23 @@ functions_sound source first [] before functions z e =
     let is = ok_inner z (before, functions) (Ok (before, functions)) e refl in
     ([], ap (λ p. p.0) is ∙ sym (append-nil before), subst (λ p. NamesFunctions source first functions [] [] p.1) (sym is) (no_function functions))
 functions_sound source first (f ∷ fs) before functions z is =
-    let after = with_variable source f.name functions in
+    let later = with_variable source f.name functions in
     let read = map (reading_of_stmt source) f.body in
     let rest : NamedFunction × Names → Answer (List NamedFunction × Names) = (λ x. run_from (before ++ x.0 ∷ []) (map (function_reading source first) fs) x.1) in
-    let made : Names → List (Param Slot) × Names → Answer (NamedFunction × Names) = (λ after ps. block_reading read (opened most_definitions ps.1) >>= (λ body. ok (function_of f.name f.span ps.0 body.0, after))) in
+    let made : Names → List (Param Slot) × Names → Answer (NamedFunction × Names) = (λ later ps. block_reading read (opened most_definitions ps.1) >>= (λ body. ok (function_of f.name f.span ps.0 body.0, later))) in
     let all : Slot × Names → Answer (NamedFunction × Names) = (λ x. run_from [] (map (param_reading source) f.params) first >>= made x.1) in
     let b = ok_bind (function_reading source first f functions) rest z is in
     let a = ok_bind (introduction source f.name functions) all b.0 b.1 in
-    let place : Slot × Names = (slot functions.next, after) in
+    let place : Slot × Names = (slot functions.next, later) in
     let c = given_bind source (is_new functions f.name) (tt {0}) (λ u. ok place) a.0 a.1 in
-    let d = ok_bind (run_from [] (map (param_reading source) f.params) first) (made after) b.0 (ap all (ok_same place a.0 c.1) ∙ a.2) in
+    let d = ok_bind (run_from [] (map (param_reading source) f.params) first) (made later) b.0 (ap all (ok_same place a.0 c.1) ∙ a.2) in
     let ps = params_sound source f.params [] first d.0 d.1 in
-    let e = ok_bind (block_reading read (opened most_definitions d.0.1)) (λ body. ok (function_of f.name f.span d.0.0 body.0, after)) b.0 d.2 in
+    let e = ok_bind (block_reading read (opened most_definitions d.0.1)) (λ body. ok (function_of f.name f.span d.0.0 body.0, later)) b.0 d.2 in
     let ss = all_sound source f.body (opened most_definitions d.0.1) e.0 e.1 in
     let g : NamedFunction = function_of f.name f.span ps.0 e.0.0 in
-    let same = ap (λ qs. (function_of f.name f.span qs e.0.0, after)) (sym ps.1) ∙ ok_same (function_of f.name f.span d.0.0 e.0.0, after) b.0 e.2 in
-    let here : rest (g, after) ≡ Ok z = ap rest same ∙ b.2 in
-    let r = functions_sound source first fs (before ++ g ∷ []) after z here in
+    let same = ap (λ qs. (function_of f.name f.span qs e.0.0, later)) (sym ps.1) ∙ ok_same (function_of f.name f.span d.0.0 e.0.0, later) b.0 e.2 in
+    let here : rest (g, later) ≡ Ok z = ap rest same ∙ b.2 in
+    let r = functions_sound source first fs (before ++ g ∷ []) later z here in
     (g ∷ r.0, r.1 ∙ append_assoc before (g ∷ []) r.0, next_function functions z.1 d.0.1 ss.0 f.name f.span f.params ps.0 f.body e.0.0 fs r.0 c.0 ps.2 ss.1 r.2)
 
 contract_sound : (source : List ℕ) (name span : Span) (pragmas : List Constraint) (ps : List (Param Span)) (fs : List FunctionTree) (t : NamedTree)

@@ -9,13 +9,15 @@ use Rattle.cash_tree.specs.declared.StmtKind.TheVariants as nodes
 use Rattle.cash_tree.specs.declared.StmtKind.TheOpen.{StmtKind-F, Stmt-F}
 use Rattle.cash_tree.specs.declared.StmtKind.TheViews.{roll-Stmt, roll-StmtKind}
 use Rattle.cash_tree.specs.declared.StmtKind.TheFolds.{fold-StmtKind, ind-Stmt, fold-roll-Stmt, fold-roll-StmtKind, map-StmtKind}
-use Rattle.cash_names.specs.Names.{Names, no_names, opened, most_params, most_functions, most_definitions, declared, slot, slot_at, behind}
+use Rattle.name_scopes.specs.Names.{Names, no_names, opened, most_params, most_functions, most_definitions, declared, slot, slot_at, after, with_variable}
 use Rattle.cash_base.specs.Source.{text_at}
-use Rattle.cash_names.specs.Wants.{is_admitted, is_new, is_variable, has_function}
+use Rattle.name_scopes.specs.Wants.{is_admitted, is_new, is_variable, has_function}
 use Rattle.cash_names.specs.Expressions.{Expression, NamedExpr, wants_of, with_slots}
-use Rattle.cash_names.specs.Outline.{Outline, Scopes, Statement, NamedStmt, NamedStmtKind, FunctionTree, NamedFunction, Tree, NamedTree, run, block, other, with_variable, slotted, is_without, param_outline, stmt_kind_outline, stmt_outline, outline_of, function_outline, outline_of_tree}
-use Rattle.cash_names.specs.Reading.{Answer, ◌>>=◌, Running, check, check_two, introduction, definition_reading, pair_reading, run_from, block_reading, other_block, reading_of, param_reading, stmt_kind_reading, stmt_reading, reading_of_stmt, reading_of_stmt_kind, function_reading, functions_reading, tree_reading}
-use Rattle.cash_names.proofs.Granted.{judged, asked, asked_only, both, last}
+use Rattle.cash_names.specs.Outline.{Outline, Scopes, Statement, NamedStmt, NamedStmtKind, FunctionTree, NamedFunction, Tree, NamedTree, run, block, other, slotted, is_without, param_outline, stmt_kind_outline, stmt_outline, outline_of, function_outline, outline_of_tree}
+use Rattle.cash_base.specs.Failing.{◌>>=◌}
+use Rattle.name_scopes.specs.Uses.{Answer, Running, check, check_two, introduction}
+use Rattle.cash_names.specs.Reading.{definition_reading, pair_reading, run_from, block_reading, other_block, reading_of, param_reading, stmt_kind_reading, stmt_reading, reading_of_stmt, reading_of_stmt_kind, function_reading, functions_reading, tree_reading}
+use Rattle.name_scopes.proofs.Granted.{judged, asked, asked_only, both, last}
 use Rattle.cash_names.proofs.Places.{agrees}
 use Rattle.cash_names.proofs.Run.{verdict, AgreesAt, AllAgree, run_agrees, all_agree}
 
@@ -29,7 +31,7 @@ pub block_agrees : (source : List ℕ) (ss : List Statement) → AllAgree source
     → (names : Names) → block_reading (map (reading_of_stmt source) ss) names ≡ verdict source (block (map (outline_of source) ss) names)
 block_agrees source ss h names =
     let all = run (map (outline_of source) ss) names in
-    last source (run_from [] (map (reading_of_stmt source) ss) names) all.wants all.value (λ r. (r.0, behind names r.1)) (run_agrees source (reading_of_stmt source) (outline_of source) ss h [] names)
+    last source (run_from [] (map (reading_of_stmt source) ss) names) all.wants all.value (λ r. (r.0, after names r.1)) (run_agrees source (reading_of_stmt source) (outline_of source) ss h [] names)
 
 -- an `if` from its second block on, from its first, and whole
 abbrev no_step : Option (List (Running NamedStmt)) → NamedExpr → List NamedStmt × Names → Answer (NamedStmtKind × Names)
@@ -163,13 +165,13 @@ function_agrees : (source : List ℕ) (first : Names) (f : FunctionTree)
 function_agrees source first f functions =
     let ps = run (map (param_outline source) f.params) first in
     let body = block (map (outline_of source) f.body) (opened most_definitions ps.value.1) in
-    let after = with_variable source f.name functions in
-    let make : Names → List (Param Slot) → List NamedStmt → NamedFunction × Names = (λ after ps ss. (record { name = f.name; span = f.span; params = ps; body = ss }, after)) in
-    let z = make after ps.value.0 body.value.0 in
-    let read : Names → List (Param Slot) × Names → Answer (NamedFunction × Names) = (λ after ps. block_reading (map (reading_of_stmt source) f.body) (opened most_definitions ps.1) >>= (λ body. Ok (make after ps.0 body.0))) in
-    both source (introduction source f.name functions) (is_new functions f.name ∷ []) (slot functions.next, after) (λ x. run_from [] (map (param_reading source) f.params) first >>= read x.1) (ps.wants ++ body.wants) z (introduced source f.name functions)
-    (both source (run_from [] (map (param_reading source) f.params) first) ps.wants ps.value (read after) body.wants z (params_agree source f.params first)
-    (last source (block_reading (map (reading_of_stmt source) f.body) (opened most_definitions ps.value.1)) body.wants body.value (λ body. make after ps.value.0 body.0) (block_agrees source f.body (all_agree source (reading_of_stmt source) (outline_of source) (stmt_agrees source) f.body) (opened most_definitions ps.value.1))))
+    let later = with_variable source f.name functions in
+    let make : Names → List (Param Slot) → List NamedStmt → NamedFunction × Names = (λ later ps ss. (record { name = f.name; span = f.span; params = ps; body = ss }, later)) in
+    let z = make later ps.value.0 body.value.0 in
+    let read : Names → List (Param Slot) × Names → Answer (NamedFunction × Names) = (λ later ps. block_reading (map (reading_of_stmt source) f.body) (opened most_definitions ps.1) >>= (λ body. Ok (make later ps.0 body.0))) in
+    both source (introduction source f.name functions) (is_new functions f.name ∷ []) (slot functions.next, later) (λ x. run_from [] (map (param_reading source) f.params) first >>= read x.1) (ps.wants ++ body.wants) z (introduced source f.name functions)
+    (both source (run_from [] (map (param_reading source) f.params) first) ps.wants ps.value (read later) body.wants z (params_agree source f.params first)
+    (last source (block_reading (map (reading_of_stmt source) f.body) (opened most_definitions ps.value.1)) body.wants body.value (λ body. make later ps.value.0 body.0) (block_agrees source f.body (all_agree source (reading_of_stmt source) (outline_of source) (stmt_agrees source) f.body) (opened most_definitions ps.value.1))))
 
 functions_agree : (source : List ℕ) (first : Names) (fs : List FunctionTree)
     → functions_reading source first fs ≡ judged source (run (map (function_outline source first) fs) (opened most_functions no_names)).wants (run (map (function_outline source first) fs) (opened most_functions no_names)).value.0

@@ -1,13 +1,14 @@
 -- What is read of a tree is its named tree, or the first place that is refused.
 use Rattle.std.proofs.Common.{◌≡◌, ◌∙◌, ap, sym, refl, ℕ, List, inl, inr}
 use Rattle.std.specs.Prelude.{Option, Some, None, Result, Ok, Err, IfOk, IfErr, ◌⊎◌}
-use Rattle.cash_names.specs.declared.fault.NameFault.{NameFault}
-use Rattle.cash_names.specs.Wants.{first_refused, granted, Gives}
+use Rattle.name_scopes.specs.declared.fault.NameFault.{NameFault}
+use Rattle.name_scopes.specs.Wants.{first_refused, granted, Gives}
 use Rattle.cash_names.specs.Outline.{Tree, NamedTree, outline_of_tree}
-use Rattle.cash_names.specs.Reading.{Answer, tree_reading}
+use Rattle.name_scopes.specs.Uses.{Answer}
+use Rattle.cash_names.specs.Reading.{tree_reading}
 use Rattle.cash_names.specs.Scopes.{IsNamed, first_name_fault}
 use Rattle.cash_names.specs.Answer.{IsFaultOf, HasOne, HasNone, HasFault}
-use Rattle.cash_names.proofs.Granted.{ok_inner}
+use Rattle.name_scopes.proofs.Granted.{ok_inner}
 use Rattle.cash_names.proofs.StmtPlaces.{tree_agrees}
 use Rattle.cash_names.proofs.StmtNamed.{tree_complete, tree_sound}
 

@@ -1,7 +1,7 @@
 -- What `resolve` answers.
 use Rattle.std.specs.Prelude.{◌≡◌, ℕ, List, Some, ◌⊎◌}
-use Rattle.cash_names.specs.declared.fault.NameFault.{NameFault}
-use Rattle.cash_names.specs.declared.fault.NameFault.TheVariants.{Memory}
+use Rattle.name_scopes.specs.declared.fault.NameFault.{NameFault}
+use Rattle.name_scopes.specs.declared.fault.NameFault.TheVariants.{Memory}
 use Rattle.cash_names.specs.Outline.{Tree, NamedTree}
 use Rattle.cash_names.specs.Scopes.{IsNamed, first_name_fault}
 

@@ -9,8 +9,8 @@ use Rattle.cash_tree.specs.declared.ExprKind.{ExprKind}
 use Rattle.cash_tree.specs.declared.ExprKind.TheVariants as nodes
 use Rattle.cash_tree.specs.declared.ExprKind.TheOpen.{ExprKind-F, Expr-F}
 use Rattle.cash_tree.specs.declared.ExprKind.TheFolds.{fold-Expr}
-use Rattle.cash_names.specs.Names.{Names}
-use Rattle.cash_names.specs.Wants.{Want, is_known, is_callable}
+use Rattle.name_scopes.specs.Names.{Names}
+use Rattle.name_scopes.specs.Wants.{Want, is_known, is_callable}
 
 -- as parsed: names are spans
 abbrev pub Expression : Type 0

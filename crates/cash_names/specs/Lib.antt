@@ -1,9 +1,6 @@
-pub mod Names
-pub mod Pragmas
-pub mod Wants
 pub mod Expressions
 pub mod Outline
 pub mod Reading
 pub mod Scopes
 pub mod Answer
-pub mod Nodes
+pub mod Definitions

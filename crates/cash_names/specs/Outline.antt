@@ -12,9 +12,9 @@ use Rattle.cash_tree.specs.declared.StmtKind.{StmtKind}
 use Rattle.cash_tree.specs.declared.StmtKind.TheVariants as nodes
 use Rattle.cash_tree.specs.declared.StmtKind.TheOpen.{StmtKind-F, Stmt-F}
 use Rattle.cash_tree.specs.declared.StmtKind.TheFolds.{fold-Stmt}
-use Rattle.cash_names.specs.Names.{Names, no_names, opened, most_params, most_functions, most_definitions, slot, slot_at, declared, behind}
+use Rattle.name_scopes.specs.Names.{Names, no_names, opened, most_params, most_functions, most_definitions, slot, slot_at, declared, with_variable, after}
 use Rattle.cash_base.specs.Source.{text_at}
-use Rattle.cash_names.specs.Wants.{Want, is_admitted, is_new, is_variable, has_function}
+use Rattle.name_scopes.specs.Wants.{Want, is_admitted, is_new, is_variable, has_function}
 use Rattle.cash_names.specs.Expressions.{wants_of, with_slots}
 
 -- a part of the tree
@@ -27,7 +27,7 @@ pub record Outline (A : Type 0) : Type 0 where
 abbrev pub outline : {A : Type 0} → List Want → A → Outline A
 outline wants value = record { wants = wants; value = value }
 
--- a part that may declare names, by those in scope in front of it: with it come those in scope behind it
+-- a part that may declare names, by those in scope in front of it: with it come those in scope after it
 abbrev pub Scopes : Type 0 → Type 0
 Scopes A = Names → Outline (A × Names)
 
@@ -40,10 +40,6 @@ run (part ∷ parts) names =
     outline (head.wants ++ tail.wants) (head.value.0 ∷ tail.value.0, tail.value.1)
 
 -- ---- parameters
-
--- the names behind a variable that is no constant
-abbrev pub with_variable : List ℕ → Span → Names → Names
-with_variable source span names = declared (text_at source span) false names
 
 abbrev pub slotted : Param Span → ℕ → Param Slot
 slotted p n = record { ty = p.ty; name = slot n; place = p.place }
@@ -66,9 +62,9 @@ NamedStmtKind = StmtKind Slot (Unit {0})
 -- a block's names end with it, and their slots are not given again
 abbrev pub block : List (Scopes NamedStmt) → Scopes (List NamedStmt)
 block parts names =
-    let all = run parts names in outline all.wants (all.value.0, behind names all.value.1)
+    let all = run parts names in outline all.wants (all.value.0, after names all.value.1)
 
--- the block behind `else`, where there is one
+-- the block after `else`, where there is one
 abbrev pub other : Option (List (Scopes NamedStmt)) → Scopes (Option (List NamedStmt))
 other None names = outline [] (None, names)
 other (Some parts) names =

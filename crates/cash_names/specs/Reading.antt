@@ -1,9 +1,10 @@
 -- A tree read from left to right: the tree with slots, or the first fault. The order is the order of the lines.
 --
 -- No clause of a public function speaks of it.
-use Rattle.std.specs.Prelude.{ℕ, Bool, List, [], ◌∷◌, ◌++◌, map, Option, None, Some, Result, Ok, Err}
+use Rattle.std.specs.Prelude.{ℕ, Bool, List, [], ◌∷◌, ◌++◌, map, Option, None, Some, Ok, Err}
 use Rattle.cash_base.specs.declared.place.Span.{Span}
 use Rattle.cash_base.specs.declared.place.Slot.{Slot}
+use Rattle.cash_tree.specs.declared.Ty.{Ty}
 use Rattle.cash_tree.specs.declared.Param.{Param}
 use Rattle.cash_tree.specs.declared.Callee.{Callee}
 use Rattle.cash_tree.specs.declared.Callee.TheVariants.{Known, Unknown}
@@ -14,36 +15,18 @@ use Rattle.cash_tree.specs.declared.StmtKind.{StmtKind}
 use Rattle.cash_tree.specs.declared.StmtKind.TheVariants as stmts
 use Rattle.cash_tree.specs.declared.StmtKind.TheOpen.{StmtKind-F, Stmt-F}
 use Rattle.cash_tree.specs.declared.StmtKind.TheFolds.{fold-Stmt, fold-StmtKind}
-use Rattle.cash_names.specs.declared.fault.NameFault.{NameFault}
-use Rattle.cash_names.specs.declared.fault.NameFault.TheVariants.{UnknownName}
-use Rattle.cash_names.specs.Names.{Names, no_names, opened, most_params, most_functions, most_definitions, slot, slot_at, declared, behind}
+use Rattle.name_scopes.specs.declared.fault.NameFault.TheVariants.{UnknownName}
+use Rattle.name_scopes.specs.Names.{Names, no_names, opened, most_params, most_functions, most_definitions, slot, slot_at, declared, after, with_variable}
 use Rattle.cash_base.specs.Source.{text_at}
-use Rattle.cash_names.specs.Wants.{Want, is_admitted, is_new, is_known, is_variable, has_function, refusal, first_refused, granted}
+use Rattle.name_scopes.specs.Wants.{is_admitted, is_known, is_variable, is_new, has_function, first_refused, granted}
+use Rattle.name_scopes.specs.Uses.{Answer, Running, given, check, check_two, introduction}
+use Rattle.cash_base.specs.Failing.{◌>>=◌}
 use Rattle.cash_names.specs.Expressions.{Expression, Kind, NamedExpr, NamedKind}
-use Rattle.cash_names.specs.Outline.{Statement, NamedStmt, NamedStmtKind, FunctionTree, NamedFunction, Tree, NamedTree, with_variable, slotted, is_without}
-
-abbrev pub Answer : Type 0 → Type 0
-Answer A = Result A NameFault
-
-infixl 10 ◌>>=◌
-abbrev pub ◌>>=◌ : {A B : Type 0} → Answer A → (A → Answer B) → Answer B
-(Ok x) >>= f = f x
-(Err e) >>= f = Err e
+use Rattle.cash_names.specs.Outline.{Statement, NamedStmt, NamedStmtKind, FunctionTree, NamedFunction, Tree, NamedTree, slotted, is_without}
 
 -- a part that declares no name
 abbrev pub Reading : Type 0 → Type 0
 Reading A = Names → Answer A
-
--- a part, and the names in scope behind it
-abbrev pub Running : Type 0 → Type 0
-Running A = Names → Answer (A × Names)
-
--- a value, where one thing is as it is wanted
-abbrev pub given : {A : Type 0} → List ℕ → Want → A → Answer A
-given source want value = granted (refusal source want) value
-
-abbrev pub check : List ℕ → Want → Answer (Unit {0})
-check source want = given source want tt
 
 -- ---- expressions
 
@@ -133,18 +116,6 @@ run_from done (part ∷ parts) names = do
   x ← part names
   run_from (done ++ x.0 ∷ []) parts x.1
 
--- that two names may be declared, one after the other
-abbrev pub check_two : List ℕ → Span → Span → Names → Answer (Unit {0})
-check_two source left right names = do
-  u ← check source (is_new names left)
-  check source (is_new (with_variable source left names) right)
-
--- a variable is declared
-abbrev pub introduction : List ℕ → Span → Running Slot
-introduction source span names = do
-  u ← check source (is_new names span)
-  Ok (slot names.next, with_variable source span names)
-
 abbrev pub param_reading : List ℕ → Param Span → Running (Param Slot)
 param_reading source p names = do
   x ← introduction source p.name names
@@ -155,16 +126,16 @@ param_reading source p names = do
 abbrev pub block_reading : List (Running NamedStmt) → Running (List NamedStmt)
 block_reading parts names = do
   all ← run_from [] parts names
-  Ok (all.0, behind names all.1)
+  Ok (all.0, after names all.1)
 
--- the block behind `else`, where there is one
+-- the block after `else`, where there is one
 abbrev pub other_block : Option (List (Running NamedStmt)) → Running (Option (List NamedStmt))
 other_block None names = Ok (None, names)
 other_block (Some parts) names = do
   all ← block_reading parts names
   Ok (Some all.0, all.1)
 
--- the name is asked for in front of the value, and declared behind it
+-- the name is asked for in front of the value, and declared after it
 abbrev pub definition_reading : List ℕ → Span → Bool → Expression → Running (Slot × NamedExpr)
 definition_reading source name constant value names = do
   u ← check source (is_new names name)
@@ -180,18 +151,28 @@ pair_reading source left right value names = do
     with_variable source right.name (with_variable source left.name names),
   )
 
-abbrev pub stmt_kind_reading : List ℕ → StmtKind-F Span (Unit {0}) (Running NamedStmtKind) (Running NamedStmt)
-    → Running NamedStmtKind
-stmt_kind_reading source (StmtKind-F.Define ty constant name place value) names = do
+abbrev pub kind_of_definition : List ℕ → Ty → Bool → Span → Span → Expression → Running NamedStmtKind
+kind_of_definition source ty constant name place value names = do
   x ← definition_reading source name constant value names
   Ok (stmts.Define ty constant x.0.0 place x.0.1, x.1)
-stmt_kind_reading source (StmtKind-F.Pair left right value) names = do
+
+abbrev pub kind_of_pair : List ℕ → Param Span → Param Span → Expression → Running NamedStmtKind
+kind_of_pair source left right value names = do
   x ← pair_reading source left right value names
   Ok (stmts.Pair x.0.0 x.0.1 x.0.2, x.1)
-stmt_kind_reading source (StmtKind-F.Assign name value) names = do
+
+abbrev pub kind_of_assignment : List ℕ → Span → Expression → Running NamedStmtKind
+kind_of_assignment source name value names = do
   s ← given source (is_variable names name) (slot_at source names name)
   v ← reading_of source value names
   Ok (stmts.Assign s v, names)
+
+abbrev pub stmt_kind_reading : List ℕ → StmtKind-F Span (Unit {0}) (Running NamedStmtKind) (Running NamedStmt)
+    → Running NamedStmtKind
+stmt_kind_reading source (StmtKind-F.Define ty constant name place value) names =
+    kind_of_definition source ty constant name place value names
+stmt_kind_reading source (StmtKind-F.Pair left right value) names = kind_of_pair source left right value names
+stmt_kind_reading source (StmtKind-F.Assign name value) names = kind_of_assignment source name value names
 stmt_kind_reading source (StmtKind-F.Time value) names = do
   v ← reading_of source value names
   Ok (stmts.Time v, names)

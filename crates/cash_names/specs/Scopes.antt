@@ -10,12 +10,12 @@ use Rattle.cash_tree.specs.declared.Contract.{Contract}
 use Rattle.cash_tree.specs.declared.Stmt.{Stmt}
 use Rattle.cash_tree.specs.declared.StmtKind.{StmtKind}
 use Rattle.cash_tree.specs.declared.StmtKind.TheVariants as nodes
-use Rattle.cash_names.specs.declared.fault.NameFault.{NameFault}
-use Rattle.cash_names.specs.Names.{Names, no_names, opened, most_params, most_functions, most_definitions, slot, slot_at, declared, behind}
+use Rattle.name_scopes.specs.declared.fault.NameFault.{NameFault}
+use Rattle.name_scopes.specs.Names.{Names, no_names, opened, most_params, most_functions, most_definitions, slot, slot_at, declared, after, with_variable}
 use Rattle.cash_base.specs.Source.{text_at}
-use Rattle.cash_names.specs.Wants.{is_admitted, is_new, is_variable, IsGranted, AreGranted, first_refused}
+use Rattle.name_scopes.specs.Wants.{is_admitted, is_new, is_variable, IsGranted, AreGranted, first_refused}
 use Rattle.cash_names.specs.Expressions.{Expression, NamedExpr, wants_of, with_slots}
-use Rattle.cash_names.specs.Outline.{Statement, NamedStmt, FunctionTree, NamedFunction, Tree, NamedTree, with_variable, slotted, outline_of_tree}
+use Rattle.cash_names.specs.Outline.{Statement, NamedStmt, FunctionTree, NamedFunction, Tree, NamedTree, slotted, outline_of_tree}
 
 -- Each name in an expression is in scope, each call is that of a built-in function or an instantiation, and the named
 -- expression is the same with the slot of each name in its place.
@@ -28,7 +28,7 @@ parsed kind span = record { kind = kind; span = span }
 abbrev pub named : StmtKind Slot (Unit {0}) → Span → NamedStmt
 named kind span = record { kind = kind; span = span }
 
--- A statement, from the names in scope in front of it to those behind it. Spans, places and types stay.
+-- A statement, from the names in scope in front of it to those after it. Spans, places and types stay.
 mutual
   pub data NamesStmt (source : List ℕ) : Names → Statement → NamedStmt → Names → Type 0 where
     -- the name is new, and its value is read before it is in scope
@@ -60,43 +60,43 @@ mutual
         (ts : List NamedStmt) (span : Span)
         → NamesExpr source names e x → NamesAll source names ss ts inner
         → NamesStmt source names (parsed (nodes.If e ss None) span) (named (nodes.If x ts None) span)
-        (behind names inner)
+        (after names inner)
     if_else : (names inner inner' : Names) (e : Expression) (x : NamedExpr) (ss ss' : List Statement)
         (ts ts' : List NamedStmt) (span : Span)
         → NamesExpr source names e x → NamesAll source names ss ts inner
-        → NamesAll source (behind names inner) ss' ts' inner'
+        → NamesAll source (after names inner) ss' ts' inner'
         → NamesStmt source names (parsed (nodes.If e ss (Some ss')) span) (named (nodes.If x ts (Some ts')) span)
-        (behind (behind names inner) inner')
+        (after (after names inner) inner')
 
   -- each sees the names of those before
   pub data NamesAll (source : List ℕ) : Names → List Statement → List NamedStmt → Names → Type 0 where
     done : (names : Names) → NamesAll source names [] [] names
-    step : (names middle after : Names) (s : Statement) (ss : List Statement) (t : NamedStmt) (ts : List NamedStmt)
-        → NamesStmt source names s t middle → NamesAll source middle ss ts after
-        → NamesAll source names (s ∷ ss) (t ∷ ts) after
+    step : (names middle later : Names) (s : Statement) (ss : List Statement) (t : NamedStmt) (ts : List NamedStmt)
+        → NamesStmt source names s t middle → NamesAll source middle ss ts later
+        → NamesAll source names (s ∷ ss) (t ∷ ts) later
 
 -- each parameter is new where those before are in scope
 pub data NamesParams (source : List ℕ) : Names → List (Param Span) → List (Param Slot) → Names → Type 0 where
   no_param : (names : Names) → NamesParams source names [] [] names
-  next_param : (names after : Names) (p : Param Span) (ps : List (Param Span)) (qs : List (Param Slot))
-      → IsGranted source (is_new names p.name) → NamesParams source (with_variable source p.name names) ps qs after
-      → NamesParams source names (p ∷ ps) (slotted p names.next ∷ qs) after
+  next_param : (names later : Names) (p : Param Span) (ps : List (Param Span)) (qs : List (Param Slot))
+      → IsGranted source (is_new names p.name) → NamesParams source (with_variable source p.name names) ps qs later
+      → NamesParams source names (p ∷ ps) (slotted p names.next ∷ qs) later
 
 abbrev pub function_of : {N : Type 0} → Span → Span → List (Param N) → List (Stmt N (Unit {0})) → Function N (Unit {0})
 function_of name span params body = record { name = name; span = span; params = params; body = body }
 
--- A function's name is new among those of the functions before. Behind the names in scope in front of each function
+-- A function's name is new among those of the functions before. After the names in scope in front of each function
 -- come its parameters, and then those that its body defines.
 pub data NamesFunctions (source : List ℕ) (first : Names) :
     Names → List FunctionTree → List NamedFunction → Names → Type 0 where
   no_function : (functions : Names) → NamesFunctions source first functions [] [] functions
-  next_function : (functions after inner last : Names) (name span : Span) (ps : List (Param Span))
+  next_function : (functions later inner last : Names) (name span : Span) (ps : List (Param Span))
       (qs : List (Param Slot)) (ss : List Statement) (ts : List NamedStmt) (fs : List FunctionTree) (gs : List NamedFunction)
       → IsGranted source (is_new functions name) → NamesParams source first ps qs inner
       → NamesAll source (opened most_definitions inner) ss ts last
-      → NamesFunctions source first (with_variable source name functions) fs gs after
+      → NamesFunctions source first (with_variable source name functions) fs gs later
       → NamesFunctions source first functions (function_of name span ps ss ∷ fs)
-      (function_of name span qs ts ∷ gs) after
+      (function_of name span qs ts ∷ gs) later
 
 abbrev pub contract_of : {N : Type 0} → Span → Span → List Constraint → List (Param N)
     → List (Function N (Unit {0})) → Contract N (Unit {0})

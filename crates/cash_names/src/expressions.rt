@@ -2,15 +2,13 @@
 #![tactic(auto, using(crate::proofs::Arms::at_node, crate::proofs::Arms::at_int, crate::proofs::Arms::at_bool, crate::proofs::Arms::at_hex, crate::proofs::Arms::at_text, crate::proofs::Arms::at_date, crate::proofs::Arms::at_name, crate::proofs::Arms::at_unary, crate::proofs::Arms::at_binary, crate::proofs::Arms::at_length, crate::proofs::Arms::at_reverse, crate::proofs::Arms::at_split, crate::proofs::Arms::at_index, crate::proofs::Arms::at_cast, crate::proofs::Arms::at_call, crate::proofs::Arms::at_new, crate::proofs::Arms::at_array, crate::proofs::Arms::at_look0, crate::proofs::Arms::at_look_at))]
 
 ghost use Rattle.std.specs.Prelude.{◌≡◌, [], map};
-ghost use Rattle.cash_names.specs.Names.{names_of};
-ghost use Rattle.cash_names.specs.Wants.{Gives};
+ghost use Rattle.name_scopes.specs.Names.{names_of};
+ghost use Rattle.name_scopes.specs.Wants.{Gives};
 ghost use Rattle.cash_names.specs.Reading.{reading_of, reading_of_kind, callee_reading, each_from};
 
-use crate::fault::NameFault;
-use crate::scope::Scope;
-use crate::uses::known;
 use cash_base::{Slot, Span};
 use cash_tree::{Callee, Expr, ExprKind};
+use name_scopes::{NameFault, Scope, known};
 use sqlite_items::{Boxed, Items};
 use std::alloc::Global;
 

@@ -2,12 +2,10 @@
 #![tactic(auto)]
 
 mod expressions;
-mod fault;
-mod pragma;
+mod laws;
 mod resolving;
-mod scope;
 mod statements;
-mod uses;
 
-pub use fault::NameFault;
-pub use resolving::{nodes_are_kept, one_answer, resolve};
+pub use laws::{nodes_are_kept, one_answer, slots_are_in_order, spans_are_kept, words_are_kept};
+pub use name_scopes::NameFault;
+pub use resolving::resolve;

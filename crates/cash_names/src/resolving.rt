@@ -1,25 +1,17 @@
 //! The named tree of a contract.
 
-ghost use Rattle.std.specs.Prelude.{◌≡◌, ◌≤◌, ◌+◌, ◌⊎◌, ℕ, List, [], map, take, length, OnOk, IfOk, IfErr, Some};
-ghost use Rattle.cash_names.specs.declared.fault.NameFault.{NameFault as Fault};
-ghost use Rattle.cash_names.specs.Names.{names_of, most_params};
-ghost use Rattle.cash_names.specs.Wants.{Gives, granted, refusal, has_function};
-ghost use Rattle.cash_names.specs.Outline.{Tree as Parsed, NamedTree as Named, is_without};
+ghost use Rattle.std.specs.Prelude.{◌≡◌, ◌≤◌, ◌+◌, [], map, take, length, OnOk, IfOk, IfErr};
+ghost use Rattle.name_scopes.specs.Names.{names_of, most_params};
+ghost use Rattle.name_scopes.specs.Wants.{Gives, granted, refusal, has_function};
+ghost use Rattle.cash_names.specs.Outline.{is_without};
 ghost use Rattle.cash_names.specs.Reading.{run_from, param_reading, function_reading, functions_reading, tree_reading};
-ghost use Rattle.cash_names.specs.Scopes.{IsNamed, first_name_fault};
-ghost use Rattle.cash_names.specs.Answer.{IsFaultOf, HasOne, HasFault, HasNone};
-ghost use Rattle.cash_base.specs.declared.place.Span.{Span};
-ghost use Rattle.cash_base.specs.declared.place.Slot.{Slot};
-ghost use Rattle.cash_names.specs.Expressions.{Expression, with_slots};
-ghost use Rattle.cash_names.specs.Nodes.{nodes};
+ghost use Rattle.cash_names.specs.Scopes.{IsNamed};
+ghost use Rattle.cash_names.specs.Answer.{IsFaultOf};
 
-use crate::fault::NameFault;
-use crate::pragma::all_admitted;
-use crate::scope::Scope;
 use crate::statements::{resolve_block, with_slot};
-use crate::uses::introduced;
 use cash_base::{Slot, Span};
 use cash_tree::{Contract, NamedTree, Param, Tree};
+use name_scopes::{NameFault, Scope, all_admitted, introduced};
 use sqlite_items::Items;
 use std::alloc::Global;
 
@@ -56,8 +48,8 @@ fn resolve_params<'s>(
     Ok(named)
 }
 
-/// Resolves a function behind those whose names stand in `functions`. In front of it `scope` holds the constructor's
-/// parameters, and behind it again.
+/// Resolves a function after those whose names stand in `functions`. In front of it `scope` holds the constructor's
+/// parameters, and after it again.
 fn resolve_function<'s>(
     alloc: Global,
     source: &'s [u8],
@@ -142,7 +134,7 @@ fn resolve_tree(alloc: Global, source: &[u8], tree: &Tree) -> Result<NamedTree, 
 ///
 /// A name's text is the slice of the source at its span; of a span that reaches past the source, what there is of it.
 /// Spans, places, types and the shape of the tree stay. Names of functions, of built-in functions and of variables are
-/// three tables. A variable is in scope from behind its declaration to the end of its block; a definition's value is
+/// three tables. A variable is in scope from after its declaration to the end of its block; a definition's value is
 /// read in front of it. Slots are numbered in text order: the constructor's parameters from 0, and then, in each
 /// function anew, its parameters and the names that its body defines.
 ///
@@ -151,9 +143,9 @@ fn resolve_tree(alloc: Global, source: &[u8], tree: &Tree) -> Result<NamedTree, 
 /// The first place in text order that is refused, with the span of its name or constraint:
 ///
 /// - `PragmaRefused`: `semver` doesn't read the constraint (its sign, or `=` where there is none, and its version
-///   directly behind), or 0.7.0 doesn't meet it.
+///   directly after), or 0.7.0 doesn't meet it.
 /// - `UnknownName`: a name that is read or assigned isn't in scope, or one that is called is not that of a built-in
-///   function, or behind `new` not that of an instantiation.
+///   function, or after `new` not that of an instantiation.
 /// - `Redeclared`: a name that is declared is in scope already, or a function's name is that of one before it.
 /// - `AssignToConstant`: a constant is assigned.
 /// - `TooManyNames`: a 17th parameter of the constructor or of a function, a 65th function, or a 129th name that one
@@ -168,16 +160,3 @@ pub fn resolve(alloc: Global, source: &str, tree: &Tree) -> Result<NamedTree, Na
 {
     resolve_tree(alloc, source.as_bytes(), tree)
 }
-
-/// A tree has one named tree, and no place that is refused, or it has a first place that is refused and no named tree.
-pub fn one_answer()
-    ensures one { (source : List ℕ) (tree : Parsed) (a b : Named) → IsNamed source tree a → IsNamed source tree b → a ≡ b }
-    ensures either { (source : List ℕ) (tree : Parsed) → HasOne source tree ⊎ HasFault source tree }
-    ensures apart { (source : List ℕ) (tree : Parsed) (fault : Fault) → first_name_fault source tree ≡ Some fault → HasNone source tree }
-{}
-
-/// Slots in place of names leave the number of an expression's nodes as it is, so a bound on it carries over from a
-/// tree to its named tree.
-pub fn nodes_are_kept()
-    ensures { (slot_of : Span → Slot) (e : Expression) → nodes Slot (with_slots slot_of e) ≡ nodes Span e }
-{}

@@ -1,17 +1,15 @@
 //! Resolves statements, and brings the names that they define into scope.
 
 ghost use Rattle.std.specs.Prelude.{◌≡◌, [], map, take, length, OnOk};
-ghost use Rattle.cash_names.specs.Names.{names_of};
-ghost use Rattle.cash_names.specs.Wants.{Gives};
+ghost use Rattle.name_scopes.specs.Names.{names_of};
+ghost use Rattle.name_scopes.specs.Wants.{Gives};
 ghost use Rattle.cash_names.specs.Outline.{slotted};
-ghost use Rattle.cash_names.specs.Reading.{reading_of_stmt, reading_of_stmt_kind, block_reading, definition_reading, pair_reading};
+ghost use Rattle.cash_names.specs.Reading.{reading_of_stmt, reading_of_stmt_kind, block_reading, definition_reading, pair_reading, kind_of_definition, kind_of_pair, kind_of_assignment};
 
 use crate::expressions::resolve_expr;
-use crate::fault::NameFault;
-use crate::scope::Scope;
-use crate::uses::{fresh, fresh_pair, variable};
 use cash_base::{Slot, Span, text_at};
-use cash_tree::{Expr, Param, Stmt, StmtKind};
+use cash_tree::{Expr, Param, Stmt, StmtKind, Ty};
+use name_scopes::{NameFault, Scope, fresh, fresh_pair, variable};
 use sqlite_items::Items;
 use std::alloc::Global;
 
@@ -67,6 +65,62 @@ fn define_two<'s>(
     Ok((left, right, value))
 }
 
+/// The definition of a name, which is in scope after it.
+fn definition<'s>(
+    alloc: Global,
+    source: &'s [u8],
+    scope: &mut Scope<'s>,
+    ty: &Ty,
+    constant: bool,
+    name: Span,
+    place: Span,
+    value: &Expr<Span, ()>,
+) -> Result<StmtKind<Slot, ()>, NameFault>
+    ensures gives { Gives (λ x. (x, names_of scope.new)) result (kind_of_definition source.now ty.now constant name place value.now (names_of scope.old)) }
+    ensures keeps { OnOk result (take (length (names_of scope.old).known) (names_of scope.new).known ≡ (names_of scope.old).known) }
+{
+    let (name, value) = define(alloc, source, scope, name, constant, value)?;
+    let ty = ty.copy(alloc)?;
+    Ok(StmtKind::Define {
+        ty,
+        constant,
+        name,
+        place,
+        value,
+    })
+}
+
+/// The definition of two names, which are in scope after it.
+fn pair<'s>(
+    alloc: Global,
+    source: &'s [u8],
+    scope: &mut Scope<'s>,
+    left: &Param<Span>,
+    right: &Param<Span>,
+    value: &Expr<Span, ()>,
+) -> Result<StmtKind<Slot, ()>, NameFault>
+    ensures gives { Gives (λ x. (x, names_of scope.new)) result (kind_of_pair source.now left.now right.now value.now (names_of scope.old)) }
+    ensures keeps { OnOk result (take (length (names_of scope.old).known) (names_of scope.new).known ≡ (names_of scope.old).known) }
+{
+    let (left, right, value) = define_two(alloc, source, scope, left, right, value)?;
+    Ok(StmtKind::Pair { left, right, value })
+}
+
+/// The assignment of a value to a name.
+fn assignment(
+    alloc: Global,
+    source: &[u8],
+    scope: &Scope,
+    name: Span,
+    value: &Expr<Span, ()>,
+) -> Result<StmtKind<Slot, ()>, NameFault>
+    ensures { Gives (λ x. (x, names_of scope.now)) result (kind_of_assignment source.now name value.now (names_of scope.now)) }
+{
+    let name = variable(source, scope, name)?;
+    let value = resolve_expr(alloc, source, scope, value)?;
+    Ok(StmtKind::Assign { name, value })
+}
+
 /// Resolves a statement, and brings the names that it defines into scope.
 #[cycle(statement)]
 fn resolve_stmt<'s>(
@@ -120,28 +174,11 @@ fn resolve_kind<'s>(
             name,
             place,
             value,
-        } => {
-            let ty = ty.copy(alloc)?;
-            let constant = *constant;
-            let place = *place;
-            let (name, value) = define(alloc, source, scope, *name, constant, value)?;
-            Ok(StmtKind::Define {
-                ty,
-                constant,
-                name,
-                place,
-                value,
-            })
-        }
-        StmtKind::Pair { left, right, value } => {
-            let (left, right, value) = define_two(alloc, source, scope, left, right, value)?;
-            Ok(StmtKind::Pair { left, right, value })
-        }
-        StmtKind::Assign { name, value } => {
-            let name = variable(source, scope, *name)?;
-            let value = resolve_expr(alloc, source, scope, value)?;
-            Ok(StmtKind::Assign { name, value })
-        }
+        } => Ok(definition(alloc, source, scope, ty, *constant, *name, *place, value)?),
+        StmtKind::Pair { left, right, value } => Ok(pair(
+            alloc, source, scope, left, right, value,
+        )?),
+        StmtKind::Assign { name, value } => Ok(assignment(alloc, source, scope, *name, value)?),
         StmtKind::Time { value } => {
             let value = resolve_expr(alloc, source, scope, value)?;
             Ok(StmtKind::Time { value })

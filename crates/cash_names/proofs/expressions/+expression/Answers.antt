@@ -1,7 +1,8 @@
 use Rattle.std.proofs.Common.{◌≡◌, Ok, Some, rules}
 use Rattle.cash_tree.specs.declared.ExprKind.TheVariants as nodes
-use Rattle.cash_names.specs.Names.{names_of}
-use Rattle.cash_names.specs.Reading.{◌>>=◌, reading_of, reading_of_kind}
+use Rattle.name_scopes.specs.Names.{names_of}
+use Rattle.cash_base.specs.Failing.{◌>>=◌}
+use Rattle.cash_names.specs.Reading.{reading_of, reading_of_kind}
 use Rattle.cash_names.proofs.Arms.{cast_of}
 use Rattle.cash_names.proofs.expressions.+expression.Goals as goal
 

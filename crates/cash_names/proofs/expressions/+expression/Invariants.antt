@@ -1,5 +1,5 @@
 use Rattle.std.proofs.Common.{◌≡◌, [], map, drop}
-use Rattle.cash_names.specs.Names.{names_of}
+use Rattle.name_scopes.specs.Names.{names_of}
 use Rattle.cash_names.specs.Reading.{each_from, reading_of}
 use Rattle.cash_names.proofs.expressions.+expression.Given as goal
 

@@ -1,5 +1,5 @@
 use Rattle.std.proofs.Common.{◌≡◌, [], map, drop}
-use Rattle.cash_names.specs.Names.{names_of, opened, most_functions, no_names}
+use Rattle.name_scopes.specs.Names.{names_of, opened, most_functions, no_names}
 use Rattle.cash_names.specs.Reading.{run_from, function_reading}
 use Rattle.cash_names.proofs.resolving.resolve_functions.Given as goal
 

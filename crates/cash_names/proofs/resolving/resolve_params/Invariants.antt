@@ -1,5 +1,5 @@
 use Rattle.std.proofs.Common.{◌≡◌, ◌≤◌, [], map, drop, take, length}
-use Rattle.cash_names.specs.Names.{names_of}
+use Rattle.name_scopes.specs.Names.{names_of}
 use Rattle.cash_names.specs.Reading.{run_from, param_reading}
 use Rattle.cash_names.proofs.resolving.resolve_params.Given as goal
 

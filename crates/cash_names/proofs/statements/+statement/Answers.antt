@@ -1,7 +1,8 @@
 use Rattle.std.proofs.Common.{◌≡◌, Ok, Some, map, rules}
 use Rattle.cash_tree.specs.declared.StmtKind.TheVariants as nodes
-use Rattle.cash_names.specs.Names.{names_of}
-use Rattle.cash_names.specs.Reading.{◌>>=◌, reading_of, block_reading, reading_of_stmt, reading_of_stmt_kind}
+use Rattle.name_scopes.specs.Names.{names_of}
+use Rattle.cash_base.specs.Failing.{◌>>=◌}
+use Rattle.cash_names.specs.Reading.{reading_of, block_reading, reading_of_stmt, reading_of_stmt_kind}
 use Rattle.cash_names.proofs.Arms.{if_of, both_of}
 use Rattle.cash_names.proofs.statements.+statement.Goals as goal
 

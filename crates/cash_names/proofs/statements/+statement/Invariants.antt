@@ -1,5 +1,5 @@
 use Rattle.std.proofs.Common.{◌≡◌, ◌≤◌, [], map, drop, take, length}
-use Rattle.cash_names.specs.Names.{names_of}
+use Rattle.name_scopes.specs.Names.{names_of}
 use Rattle.cash_names.specs.Reading.{run_from, reading_of_stmt}
 use Rattle.cash_names.proofs.statements.+statement.Given as goal
 

@@ -1,0 +1,4 @@
+pub mod Names
+pub mod Pragmas
+pub mod Wants
+pub mod Uses
