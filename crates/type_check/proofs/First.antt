@@ -1,7 +1,7 @@
 -- The first fault of two lists of nodes.
 use Rattle.std.proofs.Common.{◌≡◌, ◌∙◌, ap, refl, List, [], ◌∷◌, ◌++◌}
 use Rattle.std.specs.Prelude.{Some, None}
-use Rattle.type_check.specs.Places.{Node, ◌or◌, first_fault}
+use Rattle.type_tables.specs.Places.{Node, ◌or◌, first_fault}
 
 or_assoc : (x y z : Node) → (x or (y or z)) ≡ ((x or y) or z)
 or_assoc None y z = refl

@@ -1,10 +1,15 @@
+pub mod Counted
 pub mod First
 pub mod Judging
 pub mod Kept
-pub mod Lists
+pub mod Laws
 pub mod Outlined
+pub mod ShapeMaps
+pub mod Spanned
 pub mod StmtOutlined
+pub mod StmtSpanned
 pub mod StmtTyped
 pub mod Typed
 pub mod Unfolds
+pub mod Valued
 pub mod Whole

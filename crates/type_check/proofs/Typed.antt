@@ -1,97 +1,51 @@
 -- Reading an expression gives exactly what types it.
-use Rattle.std.proofs.Common.{◌≡◌, ◌∙◌, ap, sym, subst, refl, ℕ, ◌+◌, List, [], ◌∷◌, ◌++◌, map, length, append_assoc, rules}
+use Rattle.std.proofs.Common.{◌≡◌, ◌∙◌, ap, sym, subst, refl, ℕ, ◌+◌, List, [], ◌∷◌, ◌++◌, map, length, append_assoc}
 use Rattle.std.specs.Prelude.{Some, None, Ok, Err}
 use Rattle.std.proofs.lemmas.List.{append-nil}
 use Rattle.cash_base.specs.declared.place.Span.{Span}
 use Rattle.cash_base.specs.declared.place.Slot.{Slot}
 use Rattle.cash_base.specs.Failing.{◌>>=◌}
 use Rattle.cash_tree.specs.declared.Ty.{Ty}
-use Rattle.cash_tree.specs.declared.Ty.TheVariants as ty
-use Rattle.cash_tree.specs.declared.ExprKind.TheVariants as exprs
 use Rattle.cash_tree.specs.declared.ExprKind.TheOpen.{ExprKind-F, Expr-F}
-use Rattle.cash_tree.specs.declared.ExprKind.TheViews.{roll-Expr, roll-ExprKind}
-use Rattle.cash_tree.specs.declared.ExprKind.TheFolds.{ind-Expr, fold-roll-Expr, fold-roll-ExprKind, map-ExprKind, the_lemmas}
-use Rattle.type_check.specs.declared.rules.Signature.{Signature}
-use Rattle.type_check.specs.Tables.{Answer, TypedExpr, Env, number_type, date_type, hex_type, text_type, type_at, unary_type, binary_type, length_type, reverse_type, split_type, literal_of, index_type, cast_type, sized_cast_type, place_at, nothing, signature, call_type, array_type, look0_type, look_at_type}
-use Rattle.type_check.specs.Outline.{Place, Judged, TypedKind, NamedExpr, KindLayer, types, typed}
-use Rattle.type_check.specs.Reading as readings
-use Rattle.type_check.specs.Reading.{Reading, each_from, kind_reading, expr_reading, reading_of, reading_of_kind}
+use Rattle.cash_tree.specs.declared.ExprKind.TheViews.{roll-Expr, roll-ExprKind, out-roll-ExprKind}
+use Rattle.cash_tree.specs.declared.ExprKind.TheFolds.{ind-Expr, map-ExprKind}
+use Rattle.type_tables.specs.declared.rules.Signature.{Signature}
+use Rattle.type_tables.specs.Tables.{Answer, TypedExpr, Env, place_at}
+use Rattle.type_check.specs.Shapes as shapes
+use Rattle.type_check.specs.Shapes.{Shape, Place, NamedExpr, NamedKind, TypedKind, KindLayer, shape, opened, expr, typed}
+use Rattle.type_check.specs.Outline.{Judged}
+use Rattle.type_check.specs.Reading.{each_from, with_type, shape_reading, reading_of, reading_of_kind}
 use Rattle.type_check.specs.Typing as rule
-use Rattle.type_check.specs.Typing.{NamedKind, expr, HasLeaf, HasOne, HasTwo, HasMany, HasType, HaveTypes, none, next}
-use Rattle.type_check.proofs.Lists.{grown}
-use Rattle.type_check.proofs.Unfolds.{sized_unfolds}
+use Rattle.type_check.specs.Typing.{HasType, HasShape, HaveTypes, node, none, next}
+use Rattle.type_tables.proofs.Lists.{grown}
+use Rattle.type_check.proofs.ShapeMaps.{map_shape, shape_map}
+use Rattle.type_check.proofs.Unfolds.{layer_read, kind_read, expr_read}
 
 -- ---- what has a type is read
 
-judged_leaf : (k : TypedKind) (r : Answer Ty) (t : Ty) → r ≡ Ok t → readings.leaf k r ≡ Ok (k, t)
-judged_leaf k r t is = ap (λ r. r >>= (λ t. Ok (k, t))) is
-
-pub leaf_read : (env : Env) (place : Place) (k : NamedKind) (m : TypedKind) (span : Span) (r : Answer Ty)
-    → HasLeaf env k m span r
-    → reading_of_kind k span place env ≡ readings.leaf m r
-leaf_read env place _ _ _ _ (rule.int digits unit span) = search (rules, the_lemmas)
-leaf_read env place _ _ _ _ (rule.bool b span) = search (rules, the_lemmas)
-leaf_read env place _ _ _ _ (rule.hex bytes span) = search (rules, the_lemmas)
-leaf_read env place _ _ _ _ (rule.text bytes span) = search (rules, the_lemmas)
-leaf_read env place _ _ _ _ (rule.date seconds span) = search (rules, the_lemmas)
-leaf_read env place _ _ _ _ (rule.name slot span) = search (rules, the_lemmas)
-leaf_read env place _ _ _ _ (rule.look0 look span) = search (rules, the_lemmas)
-
-one_read : (env : Env) (place : Place) (a : NamedExpr) (x : TypedExpr) (k : NamedKind) (m : TypedKind) (span : Span)
-    (r : Answer Ty)
-    → HasOne a x k m span r → reading_of a None env ≡ Ok x → reading_of_kind k span place env ≡ readings.leaf m r
-one_read env place _ _ _ _ _ _ (rule.unary op a x span) p = search (rules, the_lemmas)
-one_read env place _ _ _ _ _ _ (rule.length_of a x span) p = search (rules, the_lemmas)
-one_read env place _ _ _ _ _ _ (rule.reverse_of a x span) p = search (rules, the_lemmas)
-one_read env place _ _ _ _ _ _ (rule.index_of number a x span) p = search (rules, the_lemmas)
-one_read env place _ _ _ _ _ _ (rule.cast to a x span) p = search (rules, the_lemmas)
-one_read env place _ _ _ _ _ _ (rule.look_at look a x span) p = search (rules, the_lemmas)
-
-sized_read : (env : Env) (place : Place) (to : Ty) (a b : NamedExpr) (x y : TypedExpr) (span : Span)
-    → reading_of a None env ≡ Ok x → reading_of b None env ≡ Ok y
-    → reading_of_kind (exprs.Cast to a (Some b)) span place env
-    ≡ readings.leaf (exprs.Cast to x (Some y)) (sized_cast_type span to x.ty y.ty)
-sized_read env place to a b x y span p q =
-    sized_unfolds env place to a b span
-    ∙ ap (λ r. r >>= (λ x. reading_of b None env >>= (λ y. readings.leaf (exprs.Cast to x (Some y))
-    (sized_cast_type span to x.ty y.ty)))) p
-    ∙ ap (λ r. r >>= (λ y. readings.leaf (exprs.Cast to x (Some y)) (sized_cast_type span to x.ty y.ty))) q
-
-two_read : (env : Env) (place : Place) (a b : NamedExpr) (x y : TypedExpr) (k : NamedKind) (m : TypedKind)
-    (span : Span) (r : Answer Ty)
-    → HasTwo a b x y k m span r → reading_of a None env ≡ Ok x → reading_of b None env ≡ Ok y
-    → reading_of_kind k span place env ≡ readings.leaf m r
-two_read env place _ _ _ _ _ _ _ _ (rule.binary op a b x y span) p q = search (rules, the_lemmas)
-two_read env place _ _ _ _ _ _ _ _ (rule.split a b x y span) p q = search (rules, the_lemmas)
-two_read env place _ _ _ _ _ _ _ _ (rule.sized_cast to a b x y span) p q = sized_read env place to a b x y span p q
-
-many_read : (env : Env) (place : Place) (s : Signature) (es : List NamedExpr) (xs : List TypedExpr) (k : NamedKind)
-    (m : TypedKind) (span : Span) (r : Answer Ty)
-    → HasMany place s es xs k m span r → each_from s [] (map reading_of es) env ≡ Ok xs
-    → reading_of_kind k span place env ≡ readings.leaf m r
-many_read env place _ _ _ _ _ _ _ (rule.call callee es xs span) p = search (rules, the_lemmas)
-many_read env place _ _ _ _ _ _ _ (rule.new callee es xs span) p = search (rules, the_lemmas)
-many_read env place _ _ _ _ _ _ _ (rule.array es xs span) p = search (rules, the_lemmas)
-
-whole_read : (env : Env) (place : Place) (k : NamedKind) (m : TypedKind) (span : Span) (r : Answer Ty) (t : Ty)
-    → reading_of_kind k span place env ≡ readings.leaf m r → r ≡ Ok t → reading_of (expr k span) place env
-    ≡ Ok (typed m t span)
-whole_read env place k m span r t p is =
-    let q = p ∙ judged_leaf m r t is in search (rules, the_lemmas)
+judged : (k : TypedKind) (r : Answer Ty) (t : Ty) → r ≡ Ok t → with_type k r ≡ Ok (k, t)
+judged k r t is = ap (with_type k) is
 
 mutual
   pub complete : (env : Env) (place : Place) (e : NamedExpr) (x : TypedExpr) → HasType env place e x
       → reading_of e place env ≡ Ok x
-  complete env _ _ _ (rule.leaf place k m span r t has is) =
-      whole_read env place k m span r t (leaf_read env place k m span r has) is
-  complete env _ _ _ (rule.one place a x k m span r t h has is) =
-      whole_read env place k m span r t (one_read env place a x k m span r has (complete env None a x h)) is
-  complete env _ _ _ (rule.two place a b x y k m span r t h i has is) =
-      whole_read env place k m span r t
-      (two_read env place a b x y k m span r has (complete env None a x h) (complete env None b y i)) is
-  complete env _ _ _ (rule.many place s es xs k m span r t h has is) =
-      whole_read env place k m span r t
-      (many_read env place s es xs k m span r has (complete_each env s 0 es xs h [] refl)) is
+  complete env _ _ _ (node place k m span t h) =
+      expr_read k span place env
+      ∙ ap (λ r. r >>= (λ j. Ok (typed j.0 j.1 span)))
+      (kind_read k span place env ∙ shape_complete env (shape (opened k) span place env) m t h)
+
+  shape_complete : (env : Env) (s : Shape NamedExpr) (m : TypedKind) (t : Ty) → HasShape env s m t
+      → shape_reading (map_shape reading_of s) env ≡ Ok (m, t)
+  shape_complete env _ _ _ (rule.leaf m r t is) = judged m r t is
+  shape_complete env _ _ _ (rule.one a x make r t h is) =
+      ap (λ p. p >>= (λ x. with_type (make x) (r x))) (complete env None a x h) ∙ judged (make x) (r x) t is
+  shape_complete env _ _ _ (rule.two a b x y make r t h i is) =
+      ap (λ p. p >>= (λ x. reading_of b None env >>= (λ y. with_type (make x y) (r x y)))) (complete env None a x h)
+      ∙ ap (λ p. p >>= (λ y. with_type (make x y) (r x y))) (complete env None b y i)
+      ∙ judged (make x y) (r x y) t is
+  shape_complete env _ _ _ (rule.many s es xs make r t h is) =
+      ap (λ p. p >>= (λ xs. with_type (make xs) (r xs))) (complete_each env s 0 es xs h [] refl)
+      ∙ judged (make xs) (r xs) t is
 
   complete_each : (env : Env) (s : Signature) (at : ℕ) (es : List NamedExpr) (xs : List TypedExpr)
       → HaveTypes env s at es xs
@@ -123,12 +77,9 @@ ok_inner x y r d e = cc
 pub via : {A B : Type 0} (f : A → B) (a b : A) (k : B) → a ≡ b → f b ≡ k → f a ≡ k
 via f a b k e d = ap f e ∙ d
 
-abbrev Made : Env → Place → NamedKind → Span → Judged → Type 0
-Made env place kind span k = HasType env place (expr kind span) (typed k.0 k.1 span)
-
 abbrev KindSound : NamedKind → Type 0
 KindSound kind = (env : Env) (place : Place) (k : Judged) (span : Span) → reading_of_kind kind span place env ≡ Ok k
-    → Made env place kind span k
+    → HasShape env (shape (opened kind) span place env) k.0 k.1
 
 abbrev pub Sound : NamedExpr → Type 0
 Sound e = (env : Env) (place : Place) (x : TypedExpr) → reading_of e place env ≡ Ok x → HasType env place e x
@@ -145,9 +96,8 @@ exprs_of es = map (λ e. e.0) es
 abbrev kind_parts : KindLayer Kinds Exprs → KindLayer NamedKind NamedExpr
 kind_parts = map-ExprKind Slot (Unit {0}) Kinds Exprs NamedKind NamedExpr (λ k. k.0) (λ e. e.0)
 
-abbrev kind_readings : KindLayer NamedKind NamedExpr → KindLayer (Span → Reading Judged) (Reading TypedExpr)
-kind_readings = map-ExprKind Slot (Unit {0}) NamedKind NamedExpr (Span → Reading Judged) (Reading TypedExpr)
-    reading_of_kind reading_of
+abbrev parts_of : Shape Exprs → Shape NamedExpr
+parts_of s = map_shape (λ e. e.0) s
 
 each_sound : (s : Signature) (es : List Exprs) (done : List TypedExpr) (env : Env) (zs : List TypedExpr) (at : ℕ)
     → length done ≡ at
@@ -168,122 +118,49 @@ each_sound s (e ∷ es) done env zs at here is =
           r.2,
     )
 
-leaf_sound : (env : Env) (place : Place) (k : NamedKind) (m : TypedKind) (span : Span) (r : Answer Ty) (z : Judged)
-    → HasLeaf env k m span r
-    → readings.leaf m r ≡ Ok z → Made env place k span z
-leaf_sound env place k m span r z has e =
-    let t = ok_bind r (λ t. Ok (m, t)) z e in
-    let made : Judged = (m, t.0) in
-    subst (Made env place k span) {x = made} (ok_same made z t.2) (rule.leaf place k m span r t.0 has t.1)
+-- the node itself
+node_sound : (env : Env) (s : Shape NamedExpr) (make : TypedKind) (r : Answer Ty) (z : Judged)
+    → ((t : Ty) → r ≡ Ok t → HasShape env s make t) → with_type make r ≡ Ok z → HasShape env s z.0 z.1
+node_sound env s make r z has e =
+    let t = ok_bind r (λ t. Ok (make, t)) z e in
+    let made : Judged = (make, t.0) in
+    subst (λ z. HasShape env s z.0 z.1) {x = made} (ok_same made z t.2) (has t.0 t.1)
 
-one_sound : (env : Env) (place : Place) (a : Exprs) (k : NamedKind) (make : TypedExpr → TypedKind) (span : Span)
-    (r : TypedExpr → Answer Ty) (z : Judged)
-    → ((x : TypedExpr) → HasOne a.0 x k (make x) span (r x)) → readings.one (reading_of a.0) make r env ≡ Ok z
-    → Made env place k span z
-one_sound env place a k make span r z has e =
-    let p = ok_bind (reading_of a.0 None env) (λ x. readings.leaf (make x) (r x)) z e in
-    let t = ok_bind (r p.0) (λ t. Ok (make p.0, t)) z p.2 in
-    let made : Judged = (make p.0, t.0) in
-    subst (Made env place k span) {x = made} (ok_same made z t.2)
-    (rule.one place a.0 p.0 k (make p.0) span (r p.0) t.0 (a.1 env None p.0 p.1) (has p.0) t.1)
-
-two_sound : (env : Env) (place : Place) (a b : Exprs) (k : NamedKind) (make : TypedExpr → TypedExpr → TypedKind)
-    (span : Span) (r : TypedExpr → TypedExpr → Answer Ty) (z : Judged)
-    → ((x y : TypedExpr) → HasTwo a.0 b.0 x y k (make x y) span (r x y))
-    → readings.two (reading_of a.0) (reading_of b.0) make r env ≡ Ok z → Made env place k span z
-two_sound env place a b k make span r z has e =
+shape_sound : (s : Shape Exprs) (env : Env) (z : Judged) → shape_reading (map_shape reading_of (parts_of s)) env ≡ Ok z
+    → HasShape env (parts_of s) z.0 z.1
+shape_sound (shapes.leaf m r) env z e = node_sound env (shapes.leaf m r) m r z (rule.leaf m r) e
+shape_sound (shapes.one a make r) env z e =
+    let p = ok_bind (reading_of a.0 None env) (λ x. with_type (make x) (r x)) z e in
+    node_sound env (shapes.one a.0 make r) (make p.0) (r p.0) z
+    (λ t is. rule.one a.0 p.0 make r t (a.1 env None p.0 p.1) is) p.2
+shape_sound (shapes.two a b make r) env z e =
     let p = ok_bind (reading_of a.0 None env)
-    (λ x. reading_of b.0 None env >>= (λ y. readings.leaf (make x y) (r x y))) z e in
-    let q = ok_bind (reading_of b.0 None env) (λ y. readings.leaf (make p.0 y) (r p.0 y)) z p.2 in
-    let t = ok_bind (r p.0 q.0) (λ t. Ok (make p.0 q.0, t)) z q.2 in
-    let made : Judged = (make p.0 q.0, t.0) in
-    subst (Made env place k span) {x = made} (ok_same made z t.2)
-    (rule.two place a.0 b.0 p.0 q.0 k (make p.0 q.0) span (r p.0 q.0) t.0 (a.1 env None p.0 p.1)
-    (b.1 env None q.0 q.1) (has p.0 q.0) t.1)
-
-many_sound : (env : Env) (place : Place) (s : Signature) (es : List Exprs) (k : NamedKind)
-    (make : List TypedExpr → TypedKind) (span : Span) (r : List TypedExpr → Answer Ty) (z : Judged)
-    → ((xs : List TypedExpr) → HasMany place s (exprs_of es) xs k (make xs) span (r xs))
-    → readings.many s (map reading_of (exprs_of es)) make r env ≡ Ok z → Made env place k span z
-many_sound env place s es k make span r z has e =
-    let p = ok_bind (each_from s [] (map reading_of (exprs_of es)) env) (λ xs. readings.leaf (make xs) (r xs)) z e in
-    let t = ok_bind (r p.0) (λ t. Ok (make p.0, t)) z p.2 in
+    (λ x. reading_of b.0 None env >>= (λ y. with_type (make x y) (r x y))) z e in
+    let q = ok_bind (reading_of b.0 None env) (λ y. with_type (make p.0 y) (r p.0 y)) z p.2 in
+    node_sound env (shapes.two a.0 b.0 make r) (make p.0 q.0) (r p.0 q.0) z
+    (λ t is. rule.two a.0 b.0 p.0 q.0 make r t (a.1 env None p.0 p.1) (b.1 env None q.0 q.1) is) q.2
+shape_sound (shapes.many s es make r) env z e =
+    let p = ok_bind (each_from s [] (map reading_of (exprs_of es)) env) (λ xs. with_type (make xs) (r xs)) z e in
     let all = each_sound s es [] env p.0 0 refl p.1 in
-    let made : Judged = (make p.0, t.0) in
-    subst (Made env place k span) {x = made} (ok_same made z t.2)
-    (rule.many place s (exprs_of es) p.0 k (make p.0) span (r p.0) t.0
-    (subst (λ xs. HaveTypes env s 0 (exprs_of es) xs) (sym all.1) all.2) (has p.0) t.1)
+    node_sound env (shapes.many s (exprs_of es) make r) (make p.0) (r p.0) z
+    (λ t is. rule.many s (exprs_of es) p.0 make r t
+    (subst (λ xs. HaveTypes env s 0 (exprs_of es) xs) (sym all.1) all.2) is) p.2
 
-kind_step : (y : KindLayer Kinds Exprs) (env : Env) (place : Place) (z : Judged) (span : Span)
-    → kind_reading (kind_readings (kind_parts y)) span place env ≡ Ok z
-    → Made env place (roll-ExprKind Slot (Unit {0}) (kind_parts y)) span z
-unfolding roll-ExprKind denote.Hole.Carrier.roll
-kind_step (ExprKind-F.Int digits unit) env place z span e =
-    leaf_sound env place (exprs.Int digits unit) (exprs.Int digits unit) span (number_type span digits unit) z
-    (rule.int digits unit span) e
-kind_step (ExprKind-F.Bool b) env place z span e =
-    leaf_sound env place (exprs.Bool b) (exprs.Bool b) span (Ok ty.Bool) z (rule.bool b span) e
-kind_step (ExprKind-F.Hex bytes) env place z span e =
-    leaf_sound env place (exprs.Hex bytes) (exprs.Hex bytes) span (hex_type span (length bytes)) z
-    (rule.hex bytes span) e
-kind_step (ExprKind-F.Text bytes) env place z span e =
-    leaf_sound env place (exprs.Text bytes) (exprs.Text bytes) span (text_type span (length bytes)) z
-    (rule.text bytes span) e
-kind_step (ExprKind-F.Date seconds) env place z span e =
-    leaf_sound env place (exprs.Date seconds) (exprs.Date seconds) span (date_type span seconds) z
-    (rule.date seconds span) e
-kind_step (ExprKind-F.Name slot) env place z span e =
-    leaf_sound env place (exprs.Name slot) (exprs.Name slot) span (Ok (type_at slot env)) z (rule.name slot span) e
-kind_step (ExprKind-F.Unary op a) env place z span e =
-    one_sound env place a (exprs.Unary op a.0) (exprs.Unary op) span (λ x. unary_type span op x.ty) z
-    (λ x. rule.unary op a.0 x span) e
-kind_step (ExprKind-F.Binary op a b) env place z span e =
-    two_sound env place a b (exprs.Binary op a.0 b.0) (exprs.Binary op) span (λ x y. binary_type span op x.ty y.ty) z
-    (λ x y. rule.binary op a.0 b.0 x y span) e
-kind_step (ExprKind-F.Length a) env place z span e =
-    one_sound env place a (exprs.Length a.0) exprs.Length span (λ x. length_type span x.ty) z
-    (λ x. rule.length_of a.0 x span) e
-kind_step (ExprKind-F.Reverse a) env place z span e =
-    one_sound env place a (exprs.Reverse a.0) exprs.Reverse span (λ x. reverse_type span x.ty) z
-    (λ x. rule.reverse_of a.0 x span) e
-kind_step (ExprKind-F.Split a b) env place z span e =
-    two_sound env place a b (exprs.Split a.0 b.0) exprs.Split span (λ x y. split_type span x.ty y.ty (literal_of y)) z
-    (λ x y. rule.split a.0 b.0 x y span) e
-kind_step (ExprKind-F.Index a number) env place z span e =
-    one_sound env place a (exprs.Index a.0 number) (λ x. exprs.Index x number) span (λ x. index_type span number x.ty)
-    z (λ x. rule.index_of number a.0 x span) e
-kind_step (ExprKind-F.Cast to a None) env place z span e =
-    one_sound env place a (exprs.Cast to a.0 None) (λ x. exprs.Cast to x None) span (λ x. cast_type span to x.ty) z
-    (λ x. rule.cast to a.0 x span) e
-kind_step (ExprKind-F.Cast to a (Some b)) env place z span e =
-    two_sound env place a b (exprs.Cast to a.0 (Some b.0)) (λ x y. exprs.Cast to x (Some y)) span
-    (λ x y. sized_cast_type span to x.ty y.ty) z (λ x y. rule.sized_cast to a.0 b.0 x y span) e
-kind_step (ExprKind-F.Call callee args) env place z span e =
-    many_sound env place (signature callee) args (exprs.Call callee (exprs_of args)) (exprs.Call callee) span
-    (call_type span callee) z (λ xs. rule.call callee (exprs_of args) xs span) e
-kind_step (ExprKind-F.New callee args) env place z span e =
-    many_sound env place (signature callee) args (exprs.New callee (exprs_of args)) (exprs.New callee) span
-    (call_type span callee) z (λ xs. rule.new callee (exprs_of args) xs span) e
-kind_step (ExprKind-F.Array parts) env place z span e =
-    many_sound env place nothing parts (exprs.Array (exprs_of parts)) exprs.Array span
-    (λ xs. array_type span place (types xs)) z (λ xs. rule.array (exprs_of parts) xs span) e
-kind_step (ExprKind-F.Look0 look) env place z span e =
-    leaf_sound env place (exprs.Look0 look) (exprs.Look0 look) span (Ok (look0_type look)) z (rule.look0 look span) e
-kind_step (ExprKind-F.LookAt look a) env place z span e =
-    one_sound env place a (exprs.LookAt look a.0) (exprs.LookAt look) span (λ x. look_at_type span look x.ty) z
-    (λ x. rule.look_at look a.0 x span) e
+kind_step : (y : KindLayer Kinds Exprs) → KindSound (roll-ExprKind Slot (Unit {0}) (kind_parts y))
+kind_step y env place z span e =
+    let parts = shape_map (λ (k : Kinds). k.0) (λ (e : Exprs). e.0) y span place env in
+    subst (λ l. HasShape env (shape l span place env) z.0 z.1) (sym (out-roll-ExprKind Slot (Unit {0}) (kind_parts y)))
+    (subst (λ s. HasShape env s z.0 z.1) (sym parts)
+    (shape_sound (shape y span place env) env z
+    (sym (layer_read (kind_parts y) span place env
+    ∙ ap (λ s. shape_reading (map_shape reading_of s) env) parts) ∙ e)))
 
 pub sound : (e : NamedExpr) → Sound e
 sound = ind-Expr Slot (Unit {0}) KindSound Sound
-    (λ x y is. subst (λ z. KindSound (roll-ExprKind Slot (Unit {0}) z)) is (λ env place k span e.
-    kind_step y env place k span (ap (λ f. f span place env)
-    (sym (fold-roll-ExprKind Slot (Unit {0}) (Span → Reading Judged) (Reading TypedExpr) kind_reading expr_reading
-    (kind_parts y))) ∙ e)))
+    (λ x y is. subst (λ z. KindSound (roll-ExprKind Slot (Unit {0}) z)) is (kind_step y))
     (λ x y is. subst (λ z. Sound (roll-Expr Slot (Unit {0}) z)) is (λ env place x e.
-    let layer : Expr-F Slot (Unit {0}) NamedKind NamedExpr = record { kind = y.kind.0; ty = y.ty; span = y.span } in
     let make : Judged → TypedExpr = (λ k. typed k.0 k.1 y.span) in
     let b = ok_bind (reading_of_kind y.kind.0 y.span place env) (λ k. Ok (make k)) x
-    (ap (λ f. f place env) (sym (fold-roll-Expr Slot (Unit {0}) (Span → Reading Judged) (Reading TypedExpr)
-    kind_reading expr_reading layer)) ∙ e) in
-    subst (λ x. HasType env place (roll-Expr Slot (Unit {0}) layer) x) (ok_same (make b.0) x b.2)
-    (y.kind.1 env place b.0 y.span b.1)))
+    (sym (expr_read y.kind.0 y.span place env) ∙ e) in
+    subst (λ x. HasType env place (expr y.kind.0 y.span) x) (ok_same (make b.0) x b.2)
+    (node place y.kind.0 b.0.0 y.span b.0.1 (y.kind.1 env place b.0 y.span b.1))))

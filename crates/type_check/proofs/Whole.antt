@@ -3,12 +3,13 @@ use Rattle.std.proofs.Common.{◌≡◌, ◌∙◌, ap, sym, subst, refl, List, 
 use Rattle.std.specs.Prelude.{Some, None, Result, Ok, Err, IfOk, IfErr, Bool, true, false}
 use Rattle.std.proofs.lemmas.List.{append-nil}
 use Rattle.cash_base.specs.Failing.{◌>>=◌}
-use Rattle.type_check.specs.declared.fault.TypeFault.{TypeFault}
-use Rattle.type_check.specs.declared.fault.TypeFault.TheVariants.{NoFinalRequire}
-use Rattle.type_check.specs.Tables.{Answer, Env}
-use Rattle.type_check.specs.Places.{Node, first_fault, fault_of, granted, Gives}
+use Rattle.type_tables.specs.declared.fault.TypeFault.{TypeFault}
+use Rattle.type_tables.specs.declared.fault.TypeFault.TheVariants.{NoFinalRequire}
+use Rattle.type_tables.specs.Tables.{Answer, Env}
+use Rattle.type_tables.specs.Places.{Node, first_fault, fault_of, granted, Gives}
 use Rattle.type_check.specs.Ends.{ends_rightly, final}
-use Rattle.type_check.specs.Outline.{NamedFunction, TypedFunction, NamedContract, TypedContract, with_params, run, outline_of_stmt, function_of, function_outline, functions_outline, contract_of, contract_outline}
+use Rattle.type_check.specs.Shapes.{with_params}
+use Rattle.type_check.specs.Outline.{NamedFunction, TypedFunction, NamedContract, TypedContract, run, outline_of_stmt, function_of, function_outline, functions_outline, contract_of, contract_outline}
 use Rattle.type_check.specs.Reading.{run_from, reading_of_stmt, function_reading, functions_from, contract_reading}
 use Rattle.type_check.specs.Typing.{TypesRun, TypesFunction, TypesFunctions, TypesContract, function, no_more, one_more, contract}
 use Rattle.type_check.specs.Untyped.{untyped_contract}

@@ -1,8 +1,8 @@
 -- What `check` answers.
 use Rattle.std.specs.Prelude.{◌≡◌, ◌⊎◌, Some, None}
-use Rattle.type_check.specs.declared.fault.TypeFault.{TypeFault}
-use Rattle.type_check.specs.declared.fault.TypeFault.TheVariants.{Memory}
-use Rattle.type_check.specs.Places.{Node, first_fault}
+use Rattle.type_tables.specs.declared.fault.TypeFault.{TypeFault}
+use Rattle.type_tables.specs.declared.fault.TypeFault.TheVariants.{Memory}
+use Rattle.type_tables.specs.Places.{Node, first_fault}
 use Rattle.type_check.specs.Outline.{NamedContract, TypedContract, contract_outline}
 use Rattle.type_check.specs.Typing.{TypesContract}
 use Rattle.type_check.specs.Untyped.{untyped_contract}

@@ -5,8 +5,8 @@ use Rattle.cash_tree.specs.declared.Function.{Function}
 use Rattle.cash_tree.specs.declared.Stmt.{Stmt}
 use Rattle.cash_tree.specs.declared.StmtKind.TheOpen.{StmtKind-F, Stmt-F}
 use Rattle.cash_tree.specs.declared.StmtKind.TheFolds.{fold-Stmt}
-use Rattle.type_check.specs.declared.fault.TypeFault.TheVariants as faults
-use Rattle.type_check.specs.Tables.{Answer}
+use Rattle.type_tables.specs.declared.fault.TypeFault.TheVariants as faults
+use Rattle.type_tables.specs.Tables.{Answer}
 
 -- the last, or this one where there is none
 abbrev pub last_of : Bool → List Bool → Bool

@@ -4,21 +4,21 @@ use Rattle.cash_base.specs.declared.place.Span.{Span}
 use Rattle.cash_base.specs.declared.place.Slot.{Slot}
 use Rattle.cash_base.specs.Failing.{◌>>=◌}
 use Rattle.cash_tree.specs.declared.Ty.{Ty}
-use Rattle.cash_tree.specs.declared.Ty.TheVariants as ty
 use Rattle.cash_tree.specs.declared.Expr.{Expr}
-use Rattle.cash_tree.specs.declared.ExprKind.TheVariants as exprs
-use Rattle.cash_tree.specs.declared.ExprKind.TheOpen.{ExprKind-F, Expr-F}
+use Rattle.cash_tree.specs.declared.ExprKind.TheOpen.{Expr-F}
 use Rattle.cash_tree.specs.declared.ExprKind.{ExprKind}
 use Rattle.cash_tree.specs.declared.ExprKind.TheFolds.{fold-Expr, fold-ExprKind}
 use Rattle.cash_tree.specs.declared.Stmt.{Stmt}
 use Rattle.cash_tree.specs.declared.StmtKind.TheVariants as stmts
-use Rattle.cash_tree.specs.declared.StmtKind.TheOpen.{StmtKind-F, Stmt-F}
+use Rattle.cash_tree.specs.declared.StmtKind.TheOpen.{Stmt-F}
 use Rattle.cash_tree.specs.declared.StmtKind.{StmtKind}
 use Rattle.cash_tree.specs.declared.StmtKind.TheFolds.{fold-Stmt, fold-StmtKind}
-use Rattle.type_check.specs.declared.rules.Signature.{Signature}
-use Rattle.type_check.specs.Tables.{Answer, TypedExpr, Env, number_type, date_type, hex_type, text_type, type_at, unary_type, binary_type, length_type, reverse_type, split_type, literal_of, index_type, cast_type, sized_cast_type, place_at, nothing, signature, call_type, array_type, look0_type, look_at_type, suits, pair_suits}
+use Rattle.type_tables.specs.declared.rules.Signature.{Signature}
+use Rattle.type_tables.specs.Tables.{Answer, TypedExpr, Env, place_at}
+use Rattle.type_check.specs.Shapes as shapes
+use Rattle.type_check.specs.Shapes.{Shape, StmtShape, Place, TypedKind, TypedStmt, TypedStmtKind, KindLayer, StmtLayer, shape, stmt_shape, typed, stmt_of, with_params}
 use Rattle.type_check.specs.Ends.{final}
-use Rattle.type_check.specs.Outline.{Place, Judged, TypedKind, TypedStmt, TypedStmtKind, NamedExpr, NamedFunction, TypedFunction, NamedContract, TypedContract, KindLayer, StmtLayer, types, typed, stmt_of, with_name, with_params, with_pair, function_of, contract_of}
+use Rattle.type_check.specs.Outline.{Judged, NamedFunction, TypedFunction, NamedContract, TypedContract, function_of, contract_of}
 
 abbrev pub Reading : Type 0 → Type 0
 Reading A = Place → Env → Answer A
@@ -35,69 +35,49 @@ each_from s done (part ∷ parts) env = do
   x ← part (place_at s (length done)) env
   each_from s (done ++ x ∷ []) parts env
 
-abbrev pub leaf : TypedKind → Answer Ty → Answer Judged
-leaf kind rule = do
+-- the node itself, whose rule gives its type
+abbrev pub with_type : TypedKind → Answer Ty → Answer Judged
+with_type kind rule = do
   t ← rule
   Ok (kind, t)
 
+-- the parts, and then the node itself
 abbrev pub one : Reading TypedExpr → (TypedExpr → TypedKind) → (TypedExpr → Answer Ty) → Env → Answer Judged
 one a make rule env = do
   x ← a None env
-  leaf (make x) (rule x)
+  with_type (make x) (rule x)
 
 abbrev pub two : Reading TypedExpr → Reading TypedExpr → (TypedExpr → TypedExpr → TypedKind)
     → (TypedExpr → TypedExpr → Answer Ty) → Env → Answer Judged
 two a b make rule env = do
   x ← a None env
   y ← b None env
-  leaf (make x y) (rule x y)
+  with_type (make x y) (rule x y)
 
 abbrev pub many : Signature → List (Reading TypedExpr) → (List TypedExpr → TypedKind) → (List TypedExpr → Answer Ty)
     → Env → Answer Judged
 many s parts make rule env = do
   xs ← each_from s [] parts env
-  leaf (make xs) (rule xs)
+  with_type (make xs) (rule xs)
+
+abbrev pub shape_reading : Shape (Reading TypedExpr) → Env → Answer Judged
+shape_reading (shapes.leaf kind rule) env = with_type kind rule
+shape_reading (shapes.one a make rule) env = one a make rule env
+shape_reading (shapes.two a b make rule) env = two a b make rule env
+shape_reading (shapes.many s parts make rule) env = many s parts make rule env
 
 abbrev pub kind_reading : KindLayer (Span → Reading Judged) (Reading TypedExpr) → Span → Reading Judged
-kind_reading (ExprKind-F.Int digits unit) span place env = leaf (exprs.Int digits unit) (number_type span digits unit)
-kind_reading (ExprKind-F.Bool b) span place env = leaf (exprs.Bool b) (Ok ty.Bool)
-kind_reading (ExprKind-F.Hex bytes) span place env = leaf (exprs.Hex bytes) (hex_type span (length bytes))
-kind_reading (ExprKind-F.Text bytes) span place env = leaf (exprs.Text bytes) (text_type span (length bytes))
-kind_reading (ExprKind-F.Date seconds) span place env = leaf (exprs.Date seconds) (date_type span seconds)
-kind_reading (ExprKind-F.Name slot) span place env = leaf (exprs.Name slot) (Ok (type_at slot env))
-kind_reading (ExprKind-F.Unary op a) span place env =
-    one a (exprs.Unary op) (λ x. unary_type span op x.ty) env
-kind_reading (ExprKind-F.Binary op a b) span place env =
-    two a b (exprs.Binary op) (λ x y. binary_type span op x.ty y.ty) env
-kind_reading (ExprKind-F.Length a) span place env = one a exprs.Length (λ x. length_type span x.ty) env
-kind_reading (ExprKind-F.Reverse a) span place env = one a exprs.Reverse (λ x. reverse_type span x.ty) env
-kind_reading (ExprKind-F.Split a b) span place env =
-    two a b exprs.Split (λ x y. split_type span x.ty y.ty (literal_of y)) env
-kind_reading (ExprKind-F.Index a number) span place env =
-    one a (λ x. exprs.Index x number) (λ x. index_type span number x.ty) env
-kind_reading (ExprKind-F.Cast to a None) span place env =
-    one a (λ x. exprs.Cast to x None) (λ x. cast_type span to x.ty) env
-kind_reading (ExprKind-F.Cast to a (Some b)) span place env =
-    two a b (λ x y. exprs.Cast to x (Some y)) (λ x y. sized_cast_type span to x.ty y.ty) env
-kind_reading (ExprKind-F.Call callee args) span place env =
-    many (signature callee) args (exprs.Call callee) (call_type span callee) env
-kind_reading (ExprKind-F.New callee args) span place env =
-    many (signature callee) args (exprs.New callee) (call_type span callee) env
-kind_reading (ExprKind-F.Array parts) span place env =
-    many nothing parts exprs.Array (λ xs. array_type span place (types xs)) env
-kind_reading (ExprKind-F.Look0 look) span place env = leaf (exprs.Look0 look) (Ok (look0_type look))
-kind_reading (ExprKind-F.LookAt look a) span place env =
-    one a (exprs.LookAt look) (λ x. look_at_type span look x.ty) env
+kind_reading layer span place env = shape_reading (shape layer span place env) env
 
 abbrev pub expr_reading : Expr-F Slot (Unit {0}) (Span → Reading Judged) (Reading TypedExpr) → Reading TypedExpr
 expr_reading e place env = do
   kind ← e.kind e.span place env
   Ok (typed kind.0 kind.1 e.span)
 
-abbrev pub reading_of : Expr Slot (Unit {0}) → Reading TypedExpr
+unfoldable pub reading_of : Expr Slot (Unit {0}) → Reading TypedExpr
 reading_of = fold-Expr Slot (Unit {0}) (Span → Reading Judged) (Reading TypedExpr) kind_reading expr_reading
 
-abbrev pub reading_of_kind : ExprKind Slot (Unit {0}) → Span → Reading Judged
+unfoldable pub reading_of_kind : ExprKind Slot (Unit {0}) → Span → Reading Judged
 reading_of_kind = fold-ExprKind Slot (Unit {0}) (Span → Reading Judged) (Reading TypedExpr) kind_reading expr_reading
 
 -- ---- statements
@@ -114,30 +94,21 @@ other_reading (Some parts) env = do
   all ← run_from [] parts env
   Ok (Some all.0, all.1)
 
-abbrev pub holds : NamedExpr → (TypedExpr → TypedStmtKind) → (TypedExpr → Answer (Unit {0})) → Env
-    → Running TypedStmtKind
-holds e make rule after env = do
+abbrev pub stmt_shape_reading : StmtShape (Running TypedStmt) → Running TypedStmtKind
+stmt_shape_reading (shapes.simple e make rule after) env = do
   x ← reading_of e None env
   u ← rule x
   Ok (make x, after)
-
-abbrev pub stmt_kind_reading : StmtLayer (Span → Running TypedStmtKind) (Running TypedStmt) → Span
-    → Running TypedStmtKind
-stmt_kind_reading (StmtKind-F.Define t constant name place e) span env =
-    holds e (stmts.Define t constant name place) (λ x. suits span t x.ty) (with_name name t env) env
-stmt_kind_reading (StmtKind-F.Pair left right e) span env =
-    holds e (stmts.Pair left right) (λ x. pair_suits span left.ty right.ty x.ty) (with_pair left right env) env
-stmt_kind_reading (StmtKind-F.Assign name e) span env =
-    holds e (stmts.Assign name) (λ x. suits span (type_at name env) x.ty) env env
-stmt_kind_reading (StmtKind-F.Time e) span env = holds e stmts.Time (λ x. suits span ty.Int x.ty) env env
-stmt_kind_reading (StmtKind-F.Age e) span env = holds e stmts.Age (λ x. suits span ty.Int x.ty) env env
-stmt_kind_reading (StmtKind-F.Require e) span env = holds e stmts.Require (λ x. suits span ty.Bool x.ty) env env
-stmt_kind_reading (StmtKind-F.If test body others) span env = do
+stmt_shape_reading (shapes.branching test body others rule) env = do
   t ← reading_of test None env
   y ← run_from [] body env
   n ← other_reading others y.1
-  u ← suits span ty.Bool t.ty
+  u ← rule t
   Ok (stmts.If t y.0 n.0, n.1)
+
+abbrev pub stmt_kind_reading : StmtLayer (Span → Running TypedStmtKind) (Running TypedStmt) → Span
+    → Running TypedStmtKind
+stmt_kind_reading layer span env = stmt_shape_reading (stmt_shape layer span env) env
 
 abbrev pub stmt_reading : Stmt-F Slot (Unit {0}) (Span → Running TypedStmtKind) (Running TypedStmt) → Running TypedStmt
 stmt_reading s env = do

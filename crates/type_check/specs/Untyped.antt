@@ -8,9 +8,9 @@ use Rattle.cash_tree.specs.declared.ExprKind.TheFolds.{fold-Expr}
 use Rattle.cash_tree.specs.declared.StmtKind.TheVariants as stmts
 use Rattle.cash_tree.specs.declared.StmtKind.TheOpen.{StmtKind-F, Stmt-F}
 use Rattle.cash_tree.specs.declared.StmtKind.TheFolds.{fold-Stmt}
-use Rattle.type_check.specs.Tables.{TypedExpr}
-use Rattle.type_check.specs.Outline.{TypedStmt, NamedExpr, NamedFunction, TypedFunction, NamedContract, TypedContract}
-use Rattle.type_check.specs.Typing.{NamedKind, NamedStmt, NamedStmtKind, expr, stmt}
+use Rattle.type_tables.specs.Tables.{TypedExpr}
+use Rattle.type_check.specs.Shapes.{NamedExpr, NamedKind, NamedStmt, NamedStmtKind, TypedStmt, expr, stmt}
+use Rattle.type_check.specs.Outline.{NamedFunction, TypedFunction, NamedContract, TypedContract}
 
 abbrev pub kind_untyped : ExprKind-F Slot Ty NamedKind NamedExpr → NamedKind
 kind_untyped (ExprKind-F.Int digits unit) = exprs.Int digits unit

@@ -1,19 +1,21 @@
 //! Gives the expressions of a contract their types.
 
 ghost use Rattle.std.specs.Prelude.{◌≡◌, [], IfOk, IfErr};
-ghost use Rattle.type_check.specs.Tables.{answer};
-ghost use Rattle.type_check.specs.Places.{Gives};
-ghost use Rattle.type_check.specs.Outline.{NamedContract, with_params};
+ghost use Rattle.type_tables.specs.Tables.{answer};
+ghost use Rattle.type_tables.specs.Places.{Gives};
+ghost use Rattle.type_check.specs.Outline.{NamedContract};
+ghost use Rattle.type_check.specs.Shapes.{with_params};
 ghost use Rattle.type_check.specs.Reading.{contract_reading, function_reading, functions_from};
 ghost use Rattle.type_check.specs.Untyped.{untyped_contract};
 ghost use Rattle.type_check.specs.Answer.{IsTyped, IsFaultOf, JudgedOnce};
+ghost use Rattle.type_check.specs.Laws.{ContractsStay, ExpressionsStay};
 
-use crate::fault::TypeFault;
 use crate::statements::{bind_all, check_all, ends_rightly};
 use cash_base::Slot;
 use cash_tree::{Contract, Function, NamedTree, Param, Ty, TypedContract};
 use sqlite_items::Items;
 use std::alloc::Global;
+use type_tables::fault::TypeFault;
 
 fn copy_of_params(alloc: Global, params: &[Param<Slot>]) -> Result<Items<Param<Slot>>, TypeFault>
     ensures { Gives (λ x. x) result (answer params.now) }
@@ -90,7 +92,7 @@ fn check_contract(alloc: Global, tree: &NamedTree) -> Result<TypedContract, Type
 /// The first node that has no type, parts before wholes, left before right and statements in the order of the text,
 /// whose parts have types; at one node in the order WrongCount, Mismatch, NoSuchCast, BadTupleIndex, EmptyArray,
 /// MoreSigsThanKeys, LiteralRange. The statements in the blocks of an `if` are parts of it. NoFinalRequire stands
-/// behind the statements of its function. Memory may come at any time.
+/// after the statements of its function. Memory may come at any time.
 ///
 /// Source: the CashScript documentation, language and types. The table of casts, the rule on a body's end and the order of
 /// faults are this project's own.
@@ -109,4 +111,10 @@ pub fn check(alloc: Global, tree: &NamedTree) -> Result<TypedContract, TypeFault
 /// types this contract is the tree.
 pub fn judged_once()
     ensures { (tree : NamedContract) → JudgedOnce tree }
+{}
+
+/// Types leave the shape of a contract, its expressions with their numbers of nodes, and every span.
+pub fn types_keep()
+    ensures contracts { ContractsStay }
+    ensures expressions { ExpressionsStay }
 {}

@@ -1,23 +1,23 @@
 //! The nodes of expressions with their types, made of parts that have theirs.
 
 ghost use Rattle.std.specs.Prelude.{length, Some, None, Ok};
-ghost use Rattle.type_check.specs.Tables as table;
-ghost use Rattle.type_check.specs.Places.{Gives};
-ghost use Rattle.type_check.specs.Outline.{types};
-ghost use Rattle.type_check.specs.Reading.{leaf};
+ghost use Rattle.type_tables.specs.Tables as table;
+ghost use Rattle.type_tables.specs.Places.{Gives};
+ghost use Rattle.type_check.specs.Shapes.{types};
+ghost use Rattle.type_check.specs.Reading.{with_type};
 ghost use Rattle.cash_tree.specs.declared.ExprKind.TheVariants as exprs;
 
-use crate::calls::{array_type, call_type, literal_of, type_at};
-use crate::fault::TypeFault;
-use crate::rules::{Binding, Item};
-use crate::tables::{
-    TypedExpr, binary_type, cast_type, date_type, hex_type, index_type, length_type, look_at_type,
-    number_type, reverse_type, sized_cast_type, split_type, text_type, unary_type,
-};
 use cash_base::{LookAt, Slot, Span};
 use cash_tree::{BinaryOp, Callee, ExprKind, Ty, UnaryOp};
 use sqlite_items::{Boxed, Items};
 use std::alloc::Global;
+use type_tables::calls::{array_type, call_type, literal_of, type_at};
+use type_tables::fault::TypeFault;
+use type_tables::rules::{Binding, Item};
+use type_tables::tables::{
+    TypedExpr, binary_type, cast_type, date_type, hex_type, index_type, length_type, look_at_type,
+    number_type, reverse_type, sized_cast_type, split_type, text_type, unary_type,
+};
 
 /// What an expression is, and its type.
 #[derive(Drop)]
@@ -27,7 +27,8 @@ pub struct Judged {
 }
 
 pub fn int(span: Span, digits: u128, unit: u64) -> Result<Judged, TypeFault>
-    ensures { Gives (λ j. (j.kind, j.ty)) result (leaf (exprs.Int digits unit) (table.number_type span digits unit)) }
+    ensures { Gives (λ j. (j.kind, j.ty)) result
+        (with_type (exprs.Int digits unit) (table.number_type span digits unit)) }
 {
     let ty = number_type(span, digits, unit)?;
     let kind = ExprKind::Int { digits, unit };
@@ -35,7 +36,8 @@ pub fn int(span: Span, digits: u128, unit: u64) -> Result<Judged, TypeFault>
 }
 
 pub fn hex(alloc: Global, span: Span, bytes: &[u8]) -> Result<Judged, TypeFault>
-    ensures { Gives (λ j. (j.kind, j.ty)) result (leaf (exprs.Hex bytes.now) (table.hex_type span (length bytes.now))) }
+    ensures { Gives (λ j. (j.kind, j.ty)) result
+        (with_type (exprs.Hex bytes.now) (table.hex_type span (length bytes.now))) }
 {
     let ty = hex_type(span, bytes.len())?;
     let kind = ExprKind::Hex(Items::from_slice(alloc, bytes)?);
@@ -43,7 +45,8 @@ pub fn hex(alloc: Global, span: Span, bytes: &[u8]) -> Result<Judged, TypeFault>
 }
 
 pub fn text(alloc: Global, span: Span, bytes: &[u8]) -> Result<Judged, TypeFault>
-    ensures { Gives (λ j. (j.kind, j.ty)) result (leaf (exprs.Text bytes.now) (table.text_type span (length bytes.now))) }
+    ensures { Gives (λ j. (j.kind, j.ty)) result
+        (with_type (exprs.Text bytes.now) (table.text_type span (length bytes.now))) }
 {
     let ty = text_type(span, bytes.len())?;
     let kind = ExprKind::Text(Items::from_slice(alloc, bytes)?);
@@ -51,7 +54,7 @@ pub fn text(alloc: Global, span: Span, bytes: &[u8]) -> Result<Judged, TypeFault
 }
 
 pub fn date(span: Span, seconds: i64) -> Result<Judged, TypeFault>
-    ensures { Gives (λ j. (j.kind, j.ty)) result (leaf (exprs.Date seconds) (table.date_type span seconds)) }
+    ensures { Gives (λ j. (j.kind, j.ty)) result (with_type (exprs.Date seconds) (table.date_type span seconds)) }
 {
     let ty = date_type(span, seconds)?;
     let kind = ExprKind::Date(seconds);
@@ -59,7 +62,7 @@ pub fn date(span: Span, seconds: i64) -> Result<Judged, TypeFault>
 }
 
 pub fn name(alloc: Global, env: &[Binding], slot: Slot) -> Result<Judged, TypeFault>
-    ensures { Gives (λ j. (j.kind, j.ty)) result (leaf (exprs.Name slot) (Ok (table.type_at slot env.now))) }
+    ensures { Gives (λ j. (j.kind, j.ty)) result (with_type (exprs.Name slot) (Ok (table.type_at slot env.now))) }
 {
     let ty = type_at(alloc, slot, env)?;
     let kind = ExprKind::Name(slot);
@@ -67,7 +70,8 @@ pub fn name(alloc: Global, env: &[Binding], slot: Slot) -> Result<Judged, TypeFa
 }
 
 pub fn unary(alloc: Global, span: Span, op: UnaryOp, value: TypedExpr) -> Result<Judged, TypeFault>
-    ensures { Gives (λ j. (j.kind, j.ty)) result (leaf (exprs.Unary op value) (table.unary_type span op value.ty)) }
+    ensures { Gives (λ j. (j.kind, j.ty)) result
+        (with_type (exprs.Unary op value) (table.unary_type span op value.ty)) }
 {
     let ty = unary_type(alloc, span, op, &value.ty)?;
     let kind = ExprKind::Unary(op, Boxed::new(alloc, value)?);
@@ -81,7 +85,8 @@ pub fn binary(
     left: TypedExpr,
     right: TypedExpr,
 ) -> Result<Judged, TypeFault>
-    ensures { Gives (λ j. (j.kind, j.ty)) result (leaf (exprs.Binary op left right) (table.binary_type span op left.ty right.ty)) }
+    ensures { Gives (λ j. (j.kind, j.ty)) result
+        (with_type (exprs.Binary op left right) (table.binary_type span op left.ty right.ty)) }
 {
     let ty = binary_type(alloc, span, op, &left.ty, &right.ty)?;
     let left = Boxed::new(alloc, left)?;
@@ -91,7 +96,7 @@ pub fn binary(
 }
 
 pub fn length(alloc: Global, span: Span, value: TypedExpr) -> Result<Judged, TypeFault>
-    ensures { Gives (λ j. (j.kind, j.ty)) result (leaf (exprs.Length value) (table.length_type span value.ty)) }
+    ensures { Gives (λ j. (j.kind, j.ty)) result (with_type (exprs.Length value) (table.length_type span value.ty)) }
 {
     let ty = length_type(alloc, span, &value.ty)?;
     let kind = ExprKind::Length(Boxed::new(alloc, value)?);
@@ -99,7 +104,7 @@ pub fn length(alloc: Global, span: Span, value: TypedExpr) -> Result<Judged, Typ
 }
 
 pub fn reverse(alloc: Global, span: Span, value: TypedExpr) -> Result<Judged, TypeFault>
-    ensures { Gives (λ j. (j.kind, j.ty)) result (leaf (exprs.Reverse value) (table.reverse_type span value.ty)) }
+    ensures { Gives (λ j. (j.kind, j.ty)) result (with_type (exprs.Reverse value) (table.reverse_type span value.ty)) }
 {
     let ty = reverse_type(alloc, span, &value.ty)?;
     let kind = ExprKind::Reverse(Boxed::new(alloc, value)?);
@@ -112,7 +117,8 @@ pub fn split(
     value: TypedExpr,
     at: TypedExpr,
 ) -> Result<Judged, TypeFault>
-    ensures { Gives (λ j. (j.kind, j.ty)) result (leaf (exprs.Split value at) (table.split_type span value.ty at.ty (table.literal_of at))) }
+    ensures { Gives (λ j. (j.kind, j.ty)) result
+        (with_type (exprs.Split value at) (table.split_type span value.ty at.ty (table.literal_of at))) }
 {
     let ty = split_type(alloc, span, &value.ty, &at.ty, literal_of(&at))?;
     let value = Boxed::new(alloc, value)?;
@@ -122,7 +128,8 @@ pub fn split(
 }
 
 pub fn index(alloc: Global, span: Span, pair: TypedExpr, number: u128) -> Result<Judged, TypeFault>
-    ensures { Gives (λ j. (j.kind, j.ty)) result (leaf (exprs.Index pair number) (table.index_type span number pair.ty)) }
+    ensures { Gives (λ j. (j.kind, j.ty)) result
+        (with_type (exprs.Index pair number) (table.index_type span number pair.ty)) }
 {
     let ty = index_type(alloc, span, number, &pair.ty)?;
     let kind = ExprKind::Index(Boxed::new(alloc, pair)?, number);
@@ -130,7 +137,8 @@ pub fn index(alloc: Global, span: Span, pair: TypedExpr, number: u128) -> Result
 }
 
 pub fn cast(alloc: Global, span: Span, to: &Ty, value: TypedExpr) -> Result<Judged, TypeFault>
-    ensures { Gives (λ j. (j.kind, j.ty)) result (leaf (exprs.Cast to.now value None) (table.cast_type span to.now value.ty)) }
+    ensures { Gives (λ j. (j.kind, j.ty)) result
+        (with_type (exprs.Cast to.now value None) (table.cast_type span to.now value.ty)) }
 {
     let ty = cast_type(alloc, span, to, &value.ty)?;
     let to = to.copy(alloc)?;
@@ -150,7 +158,8 @@ pub fn sized_cast(
     value: TypedExpr,
     size: TypedExpr,
 ) -> Result<Judged, TypeFault>
-    ensures { Gives (λ j. (j.kind, j.ty)) result (leaf (exprs.Cast to.now value (Some size)) (table.sized_cast_type span to.now value.ty size.ty)) }
+    ensures { Gives (λ j. (j.kind, j.ty)) result
+        (with_type (exprs.Cast to.now value (Some size)) (table.sized_cast_type span to.now value.ty size.ty)) }
 {
     let ty = sized_cast_type(alloc, span, to, &value.ty, &size.ty)?;
     let to = to.copy(alloc)?;
@@ -166,7 +175,8 @@ pub fn call(
     callee: Callee,
     args: Items<TypedExpr>,
 ) -> Result<Judged, TypeFault>
-    ensures { Gives (λ j. (j.kind, j.ty)) result (leaf (exprs.Call callee args) (table.call_type span callee args)) }
+    ensures { Gives (λ j. (j.kind, j.ty)) result
+        (with_type (exprs.Call callee args) (table.call_type span callee args)) }
 {
     let ty = call_type(alloc, span, callee, args.as_slice())?;
     let kind = ExprKind::Call { callee, args };
@@ -179,7 +189,8 @@ pub fn new(
     callee: Callee,
     args: Items<TypedExpr>,
 ) -> Result<Judged, TypeFault>
-    ensures { Gives (λ j. (j.kind, j.ty)) result (leaf (exprs.New callee args) (table.call_type span callee args)) }
+    ensures { Gives (λ j. (j.kind, j.ty)) result
+        (with_type (exprs.New callee args) (table.call_type span callee args)) }
 {
     let ty = call_type(alloc, span, callee, args.as_slice())?;
     let kind = ExprKind::New { callee, args };
@@ -192,7 +203,8 @@ pub fn array(
     place: Option<Item>,
     items: Items<TypedExpr>,
 ) -> Result<Judged, TypeFault>
-    ensures { Gives (λ j. (j.kind, j.ty)) result (leaf (exprs.Array items) (table.array_type span place (types items))) }
+    ensures { Gives (λ j. (j.kind, j.ty)) result
+        (with_type (exprs.Array items) (table.array_type span place (types items))) }
 {
     let ty = array_type(alloc, span, place, items.as_slice())?;
     let kind = ExprKind::Array(items);
@@ -205,7 +217,8 @@ pub fn look_at(
     look: LookAt,
     index: TypedExpr,
 ) -> Result<Judged, TypeFault>
-    ensures { Gives (λ j. (j.kind, j.ty)) result (leaf (exprs.LookAt look index) (table.look_at_type span look index.ty)) }
+    ensures { Gives (λ j. (j.kind, j.ty)) result
+        (with_type (exprs.LookAt look index) (table.look_at_type span look index.ty)) }
 {
     let ty = look_at_type(alloc, span, look, &index.ty)?;
     let kind = ExprKind::LookAt(look, Boxed::new(alloc, index)?);

@@ -1,23 +1,23 @@
 //! Gives the expressions of statements their types, in the order of the text.
 
-#![tactic(auto, using(crate::proofs::Unfolds::if_else_unfolds))]
+#![tactic(auto, using(crate::proofs::Unfolds::if_only_unfolds, crate::proofs::Unfolds::if_else_unfolds))]
 
 ghost use Rattle.std.specs.Prelude.{◌≡◌, [], map};
-ghost use Rattle.type_check.specs.Tables.{answer};
-ghost use Rattle.type_check.specs.Places.{Gives};
+ghost use Rattle.type_tables.specs.Tables.{answer};
+ghost use Rattle.type_tables.specs.Places.{Gives};
 ghost use Rattle.type_check.specs.Ends as endings;
-ghost use Rattle.type_check.specs.Outline.{with_name, with_params, with_pair};
-ghost use Rattle.type_check.specs.Reading.{other_reading, reading_of_stmt, reading_of_stmt_kind, run_from};
+ghost use Rattle.type_check.specs.Shapes.{with_name, with_params, with_pair};
+ghost use Rattle.type_check.specs.Reading.{reading_of_stmt, reading_of_stmt_kind, run_from};
 
-use crate::calls::type_at;
 use crate::expressions::check_expr;
-use crate::fault::TypeFault;
-use crate::rules::Binding;
-use crate::tables::{pair_suits, suits};
 use cash_base::{Slot, Span};
 use cash_tree::{Param, Stmt, StmtKind, Ty};
 use sqlite_items::Items;
 use std::alloc::Global;
+use type_tables::calls::type_at;
+use type_tables::fault::TypeFault;
+use type_tables::rules::Binding;
+use type_tables::tables::{pair_suits, suits};
 
 /// A statement whose names are slots, without types.
 pub type NamedStmt = Stmt<Slot, ()>;

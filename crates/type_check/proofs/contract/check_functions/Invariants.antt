@@ -1,5 +1,5 @@
 use Rattle.std.proofs.Common.{◌≡◌, [], drop}
-use Rattle.type_check.specs.Outline.{with_params}
+use Rattle.type_check.specs.Shapes.{with_params}
 use Rattle.type_check.specs.Reading.{functions_from}
 use Rattle.type_check.proofs.contract.check_functions.Given as goal
 

@@ -1,5 +1,5 @@
 use Rattle.std.proofs.Common.{◌≡◌, drop}
-use Rattle.type_check.specs.Outline.{with_params}
+use Rattle.type_check.specs.Shapes.{with_params}
 use Rattle.type_check.proofs.statements.bind_all.Given as goal
 
 abbrev pub invariant-loop-param : goal.invariant-loop-param

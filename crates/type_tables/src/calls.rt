@@ -1,8 +1,8 @@
 //! The rules of calls, arrays and names, as tables.
 
 ghost use Rattle.std.specs.Prelude.{◌≡◌, length, map, option_copied};
-ghost use Rattle.type_check.specs.Tables as table;
-ghost use Rattle.type_check.specs.Places.{Gives};
+ghost use Rattle.type_tables.specs.Tables as table;
+ghost use Rattle.type_tables.specs.Places.{Gives};
 
 use crate::fault::TypeFault;
 use crate::rules::{Binding, Item, Signature, Want};
@@ -42,6 +42,7 @@ fn array_of(alloc: Global, item: Ty) -> Result<Ty, TypeFault>
 }
 
 /// The type of an array, where such items are wanted or none.
+#[tactic(auto, unfolding(crate::specs::Tables::array_type))]
 pub fn array_type(
     alloc: Global,
     span: Span,
@@ -73,6 +74,7 @@ fn takes(first: Option<Want>, second: Option<Want>, third: Option<Want>) -> Sign
 }
 
 /// What a call without arguments wants.
+#[tactic(auto, unfolding(crate::specs::Tables::nothing))]
 pub fn nothing() -> Signature
     ensures { result ≡ table.nothing }
 {
@@ -105,6 +107,7 @@ fn signature_of(builtin: Builtin) -> Signature
 }
 
 /// What a call wants of its arguments.
+#[tactic(auto, unfolding(crate::specs::Tables::signature))]
 pub fn signature(callee: Callee) -> Signature
     ensures { result ≡ table.signature callee }
 {
@@ -187,6 +190,7 @@ fn place_of(want: Option<Want>) -> Option<Item>
 }
 
 /// What the items of an array are cast to, where it is the argument of this number.
+#[tactic(auto, unfolding(crate::specs::Tables::place_at))]
 pub fn place_at(signature: Signature, at: usize) -> Option<Item>
     ensures { result ≡ table.place_at signature at }
 {
@@ -319,6 +323,7 @@ fn sigs_counted(span: Span, callee: Callee, sigs: usize, keys: usize) -> Result<
 }
 
 /// The type of a call with these arguments.
+#[tactic(auto, unfolding(crate::specs::Tables::call_type))]
 pub fn call_type(
     alloc: Global,
     span: Span,
@@ -369,6 +374,7 @@ fn date_literal(seconds: i64) -> Option<u128>
 }
 
 /// The value of a literal number or date.
+#[tactic(auto, unfolding(crate::specs::Tables::literal_of))]
 pub fn literal_of(e: &TypedExpr) -> Option<u128>
     ensures { result ≡ table.literal_of e.now }
 {

@@ -1,6 +1,6 @@
 use Rattle.std.proofs.Common.{◌≡◌, map, drop}
-use Rattle.type_check.specs.Tables.{all_suit, item_type}
-use Rattle.type_check.proofs.calls.items_suit.Given as goal
+use Rattle.type_tables.specs.Tables.{all_suit, item_type}
+use Rattle.type_tables.proofs.calls.items_suit.Given as goal
 
 abbrev pub invariant-loop-found : goal.invariant-loop-found
 invariant-loop-found l =

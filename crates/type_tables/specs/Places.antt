@@ -1,8 +1,8 @@
 -- The nodes of a contract, and the first of them that is refused.
 use Rattle.std.specs.Prelude.{◌≡◌, ◌⊎◌, List, [], ◌∷◌, Option, Some, None, Result, Ok, Err}
-use Rattle.type_check.specs.declared.fault.TypeFault.{TypeFault}
-use Rattle.type_check.specs.declared.fault.TypeFault.TheVariants.{Memory}
-use Rattle.type_check.specs.Tables.{Answer}
+use Rattle.type_tables.specs.declared.fault.TypeFault.{TypeFault}
+use Rattle.type_tables.specs.declared.fault.TypeFault.TheVariants.{Memory}
+use Rattle.type_tables.specs.Tables.{Answer}
 
 -- what the rules say of one node, by the types of its parts: its fault, or nothing
 abbrev pub Node : Type 0

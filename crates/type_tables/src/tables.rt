@@ -1,8 +1,8 @@
 //! The rules of the types, as tables. Each is a function of the types of a node's parts.
 
 ghost use Rattle.std.specs.Prelude.{◌≡◌, ◌*◌, ◌^◌, nat_lt, length, map, option_copied};
-ghost use Rattle.type_check.specs.Tables as table;
-ghost use Rattle.type_check.specs.Places.{Gives};
+ghost use Rattle.type_tables.specs.Tables as table;
+ghost use Rattle.type_tables.specs.Places.{Gives};
 ghost use Rattle.cash_tree.specs.declared.Ty.TheVariants.{Int, Bool, Bytes, BytesN};
 
 use crate::fault::TypeFault;
@@ -86,6 +86,7 @@ pub fn allowed(
 }
 
 /// Refuses a part of type `found` that may not stand where `wanted` is wanted.
+#[tactic(auto, unfolding(crate::specs::Tables::suits))]
 pub fn suits(alloc: Global, span: Span, wanted: Ty, found: &Ty) -> Result<(), TypeFault>
     ensures { Gives (λ x. x) result (table.suits span wanted found.now) }
 {
@@ -115,6 +116,7 @@ fn is_number(digits: u128, unit: u64) -> bool
 }
 
 /// The type of a literal number.
+#[tactic(auto, unfolding(crate::specs::Tables::number_type))]
 pub fn number_type(span: Span, digits: u128, unit: u64) -> Result<Ty, TypeFault>
     ensures { result ≡ table.number_type span digits unit }
 {
@@ -122,6 +124,7 @@ pub fn number_type(span: Span, digits: u128, unit: u64) -> Result<Ty, TypeFault>
 }
 
 /// The type of a literal date.
+#[tactic(auto, unfolding(crate::specs::Tables::date_type))]
 pub fn date_type(span: Span, seconds: i64) -> Result<Ty, TypeFault>
     ensures { result ≡ table.date_type span seconds }
 {
@@ -129,6 +132,7 @@ pub fn date_type(span: Span, seconds: i64) -> Result<Ty, TypeFault>
 }
 
 /// The type of a hexadecimal literal of so many bytes.
+#[tactic(auto, unfolding(crate::specs::Tables::hex_type))]
 pub fn hex_type(span: Span, len: usize) -> Result<Ty, TypeFault>
     ensures { result ≡ table.hex_type span len }
 {
@@ -142,6 +146,7 @@ pub fn hex_type(span: Span, len: usize) -> Result<Ty, TypeFault>
 }
 
 /// The type of a literal text of so many bytes.
+#[tactic(auto, unfolding(crate::specs::Tables::text_type))]
 pub fn text_type(span: Span, len: usize) -> Result<Ty, TypeFault>
     ensures { result ≡ table.text_type span len }
 {
@@ -160,6 +165,7 @@ fn unary_operand(op: UnaryOp) -> Ty
 }
 
 /// The type of an operator with one side.
+#[tactic(auto, unfolding(crate::specs::Tables::unary_type))]
 pub fn unary_type(alloc: Global, span: Span, op: UnaryOp, ty: &Ty) -> Result<Ty, TypeFault>
     ensures { Gives (λ x. x) result (table.unary_type span op ty.now) }
 {
@@ -277,6 +283,7 @@ fn bitwise_type(alloc: Global, span: Span, left: &Ty, right: &Ty) -> Result<Ty, 
 }
 
 /// The type of an operator between sides of these types.
+#[tactic(auto, unfolding(crate::specs::Tables::binary_type))]
 pub fn binary_type(
     alloc: Global,
     span: Span,
@@ -299,6 +306,7 @@ pub fn binary_type(
 // ---- parts of texts and bytes
 
 /// The type of a length.
+#[tactic(auto, unfolding(crate::specs::Tables::length_type))]
 pub fn length_type(alloc: Global, span: Span, ty: &Ty) -> Result<Ty, TypeFault>
     ensures { Gives (λ x. x) result (table.length_type span ty.now) }
 {
@@ -317,6 +325,7 @@ fn reversed(ty: &Ty) -> Ty
 }
 
 /// The type of what is reversed.
+#[tactic(auto, unfolding(crate::specs::Tables::reverse_type))]
 pub fn reverse_type(alloc: Global, span: Span, ty: &Ty) -> Result<Ty, TypeFault>
     ensures { Gives (λ x. x) result (table.reverse_type span ty.now) }
 {
@@ -350,6 +359,7 @@ fn pair_of(alloc: Global, left: Ty, right: Ty) -> Result<Ty, TypeFault>
 }
 
 /// The type of a split, at an index that may be a literal.
+#[tactic(auto, unfolding(crate::specs::Tables::split_type))]
 pub fn split_type(
     alloc: Global,
     span: Span,
@@ -391,6 +401,7 @@ fn no_pair<T>(alloc: Global, span: Span, left: Ty, right: Ty, found: &Ty) -> Res
 }
 
 /// The type of a part of a pair.
+#[tactic(auto, unfolding(crate::specs::Tables::index_type))]
 pub fn index_type(alloc: Global, span: Span, number: u128, ty: &Ty) -> Result<Ty, TypeFault>
     ensures { Gives (λ x. x) result (table.index_type span number ty.now) }
 {
@@ -401,6 +412,7 @@ pub fn index_type(alloc: Global, span: Span, number: u128, ty: &Ty) -> Result<Ty
 }
 
 /// Refuses the definition of two names of these types by another value than a pair that fits.
+#[tactic(auto, unfolding(crate::specs::Tables::pair_suits))]
 pub fn pair_suits(
     alloc: Global,
     span: Span,
@@ -482,6 +494,7 @@ fn explicit_effect(to: &Ty, from: &Ty) -> Option<CastEffect>
 /// a pair.
 ///
 /// The table is this project's own, after the CashScript documentation on types and casts.
+#[tactic(auto, unfolding(crate::specs::Tables::cast_effect))]
 pub fn cast_effect(to: &Ty, from: &Ty) -> Option<CastEffect>
     ensures { result ≡ table.cast_effect to.now from.now }
 {
@@ -492,6 +505,7 @@ pub fn cast_effect(to: &Ty, from: &Ty) -> Option<CastEffect>
 }
 
 /// What a cast with a size does, or `None` where there is no such cast: an int is padded to bytes of that size.
+#[tactic(auto, unfolding(crate::specs::Tables::sized_effect))]
 pub fn sized_effect(to: &Ty, from: &Ty) -> Option<CastEffect>
     ensures { result ≡ table.sized_effect to.now from.now }
 {
@@ -514,6 +528,7 @@ fn cast_by(alloc: Global, span: Span, to: &Ty, effect: Option<CastEffect>) -> Re
 }
 
 /// The type of a cast.
+#[tactic(auto, unfolding(crate::specs::Tables::cast_type))]
 pub fn cast_type(alloc: Global, span: Span, to: &Ty, from: &Ty) -> Result<Ty, TypeFault>
     ensures { Gives (λ x. x) result (table.cast_type span to.now from.now) }
 {
@@ -521,6 +536,7 @@ pub fn cast_type(alloc: Global, span: Span, to: &Ty, from: &Ty) -> Result<Ty, Ty
 }
 
 /// The type of a cast with a size.
+#[tactic(auto, unfolding(crate::specs::Tables::sized_cast_type))]
 pub fn sized_cast_type(
     alloc: Global,
     span: Span,
@@ -537,6 +553,7 @@ pub fn sized_cast_type(
 // ---- look-ups
 
 /// The type of what the transaction has one of.
+#[tactic(auto, unfolding(crate::specs::Tables::look0_type))]
 pub fn look0_type(look: Look0) -> Ty
     ensures { result ≡ table.look0_type look }
 {
@@ -559,6 +576,7 @@ fn looked_at(look: LookAt) -> Ty
 }
 
 /// The type of what the input or output at an index of this type has.
+#[tactic(auto, unfolding(crate::specs::Tables::look_at_type))]
 pub fn look_at_type(alloc: Global, span: Span, look: LookAt, index: &Ty) -> Result<Ty, TypeFault>
     ensures { Gives (λ x. x) result (table.look_at_type span look index.now) }
 {

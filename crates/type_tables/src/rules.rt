@@ -12,7 +12,7 @@ pub enum OperatorRule {
     Order,
     /// Of two truth values one.
     Logic,
-    /// The sum of two numbers, or one text or bytes behind another.
+    /// The sum of two numbers, or one text or bytes after another.
     Sum,
     /// Whether both are the same.
     Equality,

@@ -24,18 +24,18 @@ use Rattle.cash_tree.specs.declared.ExprKind.{ExprKind}
 use Rattle.cash_tree.specs.declared.ExprKind.TheOpen.{ExprKind-F, Expr-F}
 use Rattle.cash_tree.specs.declared.ExprKind.TheFolds.{fold-ExprKind}
 use Rattle.cash_tree.specs.declared.ExprKind.TheViews.{out-ExprKind}
-use Rattle.type_check.specs.declared.fault.TypeFault.{TypeFault}
-use Rattle.type_check.specs.declared.fault.TypeFault.TheVariants as faults
-use Rattle.type_check.specs.declared.rules.OperatorRule.{OperatorRule}
-use Rattle.type_check.specs.declared.rules.OperatorRule.TheVariants as operator_rules
-use Rattle.type_check.specs.declared.rules.CastEffect.{CastEffect}
-use Rattle.type_check.specs.declared.rules.CastEffect.TheVariants as effects
-use Rattle.type_check.specs.declared.rules.Item.{Item}
-use Rattle.type_check.specs.declared.rules.Item.TheVariants as items
-use Rattle.type_check.specs.declared.rules.Want.{Want}
-use Rattle.type_check.specs.declared.rules.Want.TheVariants as wants
-use Rattle.type_check.specs.declared.rules.Signature.{Signature}
-use Rattle.type_check.specs.declared.rules.Binding.{Binding}
+use Rattle.type_tables.specs.declared.fault.TypeFault.{TypeFault}
+use Rattle.type_tables.specs.declared.fault.TypeFault.TheVariants as faults
+use Rattle.type_tables.specs.declared.rules.OperatorRule.{OperatorRule}
+use Rattle.type_tables.specs.declared.rules.OperatorRule.TheVariants as operator_rules
+use Rattle.type_tables.specs.declared.rules.CastEffect.{CastEffect}
+use Rattle.type_tables.specs.declared.rules.CastEffect.TheVariants as effects
+use Rattle.type_tables.specs.declared.rules.Item.{Item}
+use Rattle.type_tables.specs.declared.rules.Item.TheVariants as items
+use Rattle.type_tables.specs.declared.rules.Want.{Want}
+use Rattle.type_tables.specs.declared.rules.Want.TheVariants as wants
+use Rattle.type_tables.specs.declared.rules.Signature.{Signature}
+use Rattle.type_tables.specs.declared.rules.Binding.{Binding}
 
 -- an expression whose names are slots, with its types
 abbrev pub TypedExpr : Type 0
@@ -97,7 +97,7 @@ abbrev pub allowed : Span → Bool → Ty → Ty → Answer (Unit {0})
 allowed span true wanted found = Ok tt
 allowed span false wanted found = Err (faults.Mismatch span wanted found)
 
-abbrev pub suits : Span → Ty → Ty → Answer (Unit {0})
+unfoldable pub suits : Span → Ty → Ty → Answer (Unit {0})
 suits span wanted found = allowed span (fits wanted found) wanted found
 
 abbrev pub is_sequence_layer : Layer → Bool
@@ -115,18 +115,18 @@ abbrev pub in_range : Span → Bool → Ty → Answer Ty
 in_range span true t = Ok t
 in_range span false t = Err (faults.LiteralRange span)
 
-abbrev pub number_type : Span → ℕ → ℕ → Answer Ty
+unfoldable pub number_type : Span → ℕ → ℕ → Answer Ty
 number_type span digits unit = in_range span (nat_lt (digits * unit) (2 ^ 63)) ty.Int
 
-abbrev pub date_type : Span → ℤ → Answer Ty
+unfoldable pub date_type : Span → ℤ → Answer Ty
 date_type span seconds = in_range span (nat_lt (unsigned_abs seconds) (2 ^ 63)) ty.Int
 
 -- a hexadecimal literal of so many bytes; without bytes it has no length of its own
-abbrev pub hex_type : Span → ℕ → Answer Ty
+unfoldable pub hex_type : Span → ℕ → Answer Ty
 hex_type span n = if n == 0 then Ok ty.Bytes else in_range span (nat_le n 520) (ty.BytesN n)
 
 -- a text of so many bytes, escapes resolved
-abbrev pub text_type : Span → ℕ → Answer Ty
+unfoldable pub text_type : Span → ℕ → Answer Ty
 text_type span n = in_range span (nat_le n 520) ty.Text
 
 -- ---- operators
@@ -136,7 +136,7 @@ unary_operand unary_ops.Not = ty.Bool
 unary_operand unary_ops.Negate = ty.Int
 
 -- it gives the type that it wants
-abbrev pub unary_type : Span → UnaryOp → Ty → Answer Ty
+unfoldable pub unary_type : Span → UnaryOp → Ty → Answer Ty
 unary_type span op t = do
   u ← suits span (unary_operand op) t
   Ok (unary_operand op)
@@ -170,7 +170,7 @@ abbrev pub joined_layers : Layer → Layer → Ty
 joined_layers (Ty-F.BytesN n) (Ty-F.BytesN m) = if nat_le (n + m) 520 then ty.BytesN (n + m) else ty.Bytes
 joined_layers _ _ = ty.Bytes
 
--- bytes behind bytes: where both lengths are known, so is their sum, up to 520
+-- bytes after bytes: where both lengths are known, so is their sum, up to 520
 abbrev pub joined : Ty → Ty → Ty
 joined a b = joined_layers (out-Ty a) (out-Ty b)
 
@@ -215,12 +215,12 @@ type_by operator_rules.Equality span a b = equality_type span a b
 type_by operator_rules.Bitwise span a b = bitwise_type span a b
 
 -- the type of an operator between sides of these types
-abbrev pub binary_type : Span → BinaryOp → Ty → Ty → Answer Ty
+unfoldable pub binary_type : Span → BinaryOp → Ty → Ty → Answer Ty
 binary_type span op a b = type_by (rule_of op) span a b
 
 -- ---- parts of texts and bytes
 
-abbrev pub length_type : Span → Ty → Answer Ty
+unfoldable pub length_type : Span → Ty → Answer Ty
 length_type span t = do
   u ← allowed span (is_sequence t) ty.Bytes t
   Ok ty.Int
@@ -233,7 +233,7 @@ reversed_layer _ = ty.Bytes
 abbrev pub reversed : Ty → Ty
 reversed t = reversed_layer (out-Ty t)
 
-abbrev pub reverse_type : Span → Ty → Answer Ty
+unfoldable pub reverse_type : Span → Ty → Answer Ty
 reverse_type span t = do
   u ← allowed span (is_sequence t) ty.Bytes t
   Ok (reversed t)
@@ -255,7 +255,7 @@ abbrev pub pair : Ty → Ty → Ty
 pair left right = ty.Pair left right
 
 -- a split of the first type at an index of the second, which may be a literal
-abbrev pub split_type : Span → Ty → Ty → Option ℕ → Answer Ty
+unfoldable pub split_type : Span → Ty → Ty → Option ℕ → Answer Ty
 split_type span t at literal = do
   u ← allowed span (is_sequence t) ty.Bytes t
   v ← suits span ty.Int at
@@ -273,7 +273,7 @@ abbrev pub index_layer : Span → ℕ → Ty → Layer → Answer Ty
 index_layer span number t (Ty-F.Pair left right) = part_at span number left right
 index_layer span number t _ = no_pair span ty.Bytes ty.Bytes t
 
-abbrev pub index_type : Span → ℕ → Ty → Answer Ty
+unfoldable pub index_type : Span → ℕ → Ty → Answer Ty
 index_type span number t = index_layer span number t (out-Ty t)
 
 abbrev pub both_suit : Span → Ty → Ty → Ty → Ty → Answer (Unit {0})
@@ -286,7 +286,7 @@ pair_layer span left right t (Ty-F.Pair l r) = both_suit span left right l r
 pair_layer span left right t _ = no_pair span left right t
 
 -- a definition of two names of these types
-abbrev pub pair_suits : Span → Ty → Ty → Ty → Answer (Unit {0})
+unfoldable pub pair_suits : Span → Ty → Ty → Ty → Answer (Unit {0})
 pair_suits span left right t = pair_layer span left right t (out-Ty t)
 
 -- ---- casts
@@ -315,7 +315,7 @@ abbrev pub explicit_effect_of : Ty → Ty → Option CastEffect
 explicit_effect_of to from = explicit_effect (out-Ty to) (out-Ty from)
 
 -- what a cast does, or there is none: an implicit cast does nothing
-abbrev pub cast_effect : Ty → Ty → Option CastEffect
+unfoldable pub cast_effect : Ty → Ty → Option CastEffect
 cast_effect to from = if fits to from then Some effects.Keep else explicit_effect_of to from
 
 abbrev pub sized_layer : Layer → Layer → Option CastEffect
@@ -323,17 +323,17 @@ sized_layer Ty-F.Bytes Ty-F.Int = Some effects.PadToSize
 sized_layer _ _ = None
 
 -- what a cast with a size does: only an int is cast so, to bytes
-abbrev pub sized_effect : Ty → Ty → Option CastEffect
+unfoldable pub sized_effect : Ty → Ty → Option CastEffect
 sized_effect to from = sized_layer (out-Ty to) (out-Ty from)
 
 abbrev pub cast_by : Span → Ty → Option CastEffect → Answer Ty
 cast_by span to (Some effect) = Ok to
 cast_by span to None = Err (faults.NoSuchCast span)
 
-abbrev pub cast_type : Span → Ty → Ty → Answer Ty
+unfoldable pub cast_type : Span → Ty → Ty → Answer Ty
 cast_type span to from = cast_by span to (cast_effect to from)
 
-abbrev pub sized_cast_type : Span → Ty → Ty → Ty → Answer Ty
+unfoldable pub sized_cast_type : Span → Ty → Ty → Ty → Answer Ty
 sized_cast_type span to from size = do
   u ← suits span ty.Int size
   cast_by span to (sized_effect to from)
@@ -356,7 +356,7 @@ array item = ty.Array item
 
 -- An array of items of these types. As an argument that is to be an array its items are cast to the wanted item, and
 -- in any other place its type is that of its first item.
-abbrev pub array_type : Span → Option Item → List Ty → Answer Ty
+unfoldable pub array_type : Span → Option Item → List Ty → Answer Ty
 array_type span place [] = Err (faults.EmptyArray span)
 array_type span None (first ∷ rest) = Ok (ty.Array first)
 array_type span (Some item) (first ∷ rest) = do
@@ -369,7 +369,7 @@ abbrev pub takes : Option Want → Option Want → Option Want → Signature
 takes first second third = record { first = first; second = second; third = third }
 
 -- it has no arguments
-abbrev pub nothing : Signature
+unfoldable pub nothing : Signature
 nothing = takes None None None
 
 -- what each wants of its arguments; one whose name is unknown wants none
@@ -390,7 +390,7 @@ signature_of builtins.LockingBytecodeP2PKH = takes (Some wants.Hash) None None
 signature_of builtins.LockingBytecodeP2SH = takes (Some wants.Hash) None None
 signature_of builtins.LockingBytecodeNullData = takes (Some (wants.Items items.Bytes)) None None
 
-abbrev pub signature : Callee → Signature
+unfoldable pub signature : Callee → Signature
 signature (callees.Known builtin) = signature_of builtin
 signature (callees.Unknown span) = nothing
 
@@ -445,7 +445,7 @@ place_of (Some (wants.Items item)) = Some item
 place_of _ = None
 
 -- what the items of an array are cast to, where it is the argument of this number
-abbrev pub place_at : Signature → ℕ → Option Item
+unfoldable pub place_at : Signature → ℕ → Option Item
 place_at s n =
     if n == 0 then place_of s.first else if n == 1 then place_of s.second else if n == 2 then place_of s.third else
     None
@@ -513,7 +513,7 @@ sigs_counted span callee sigs keys =
     if is_multi callee && nat_lt keys sigs then Err (faults.MoreSigsThanKeys span) else Ok tt
 
 -- the type of a call with these arguments
-abbrev pub call_type : Span → Callee → List TypedExpr → Answer Ty
+unfoldable pub call_type : Span → Callee → List TypedExpr → Answer Ty
 call_type span callee args = do
   n ← counted span (signature callee) (length args)
   k ← keys_counted span callee (items_at args 1)
@@ -523,7 +523,7 @@ call_type span callee args = do
 
 -- ---- look-ups
 
-abbrev pub look0_type : Look0 → Ty
+unfoldable pub look0_type : Look0 → Ty
 look0_type looks.Version = ty.Int
 look0_type looks.Locktime = ty.Int
 look0_type looks.InputCount = ty.Int
@@ -541,7 +541,7 @@ looked_at looks_at.InputSequence = ty.Int
 looked_at looks_at.OutputValue = ty.Int
 looked_at looks_at.OutputBytecode = ty.Bytes
 
-abbrev pub look_at_type : Span → LookAt → Ty → Answer Ty
+unfoldable pub look_at_type : Span → LookAt → Ty → Answer Ty
 look_at_type span look index = do
   u ← suits span ty.Int index
   Ok (looked_at look)
@@ -569,5 +569,5 @@ kind_literal (ExprKind-F.Date seconds) = date_literal seconds
 kind_literal _ = None
 
 -- the value of a literal number or date, which may cut bytes of a known length
-abbrev pub literal_of : TypedExpr → Option ℕ
+unfoldable pub literal_of : TypedExpr → Option ℕ
 literal_of x = kind_literal (out-ExprKind Slot Ty x.kind)

@@ -1,7 +1,7 @@
 //! Why a contract has no types.
 
 ghost use Rattle.std.specs.Prelude.{◌≡◌};
-ghost use Rattle.type_check.specs.declared.fault.TypeFault.TheVariants as faults;
+ghost use Rattle.type_tables.specs.declared.fault.TypeFault.TheVariants as faults;
 
 use cash_base::{Memory, Span};
 use cash_tree::Ty;
