@@ -22,7 +22,7 @@ use Rattle.cash_tree.specs.declared.Function.{Function}
 use Rattle.source_meaning.specs.declared.outcome.SourceOutcome.{SourceOutcome}
 use Rattle.source_meaning.specs.declared.outcome.SourceOutcome.TheVariants.{Met, Failed}
 use Rattle.source_meaning.specs.Meaning.{source_outcome}
-use Rattle.tx_context.specs.Transaction.{InputParts, input_parts, Transaction, Locking}
+use Rattle.tx_context.specs.Transaction.{InputParts, plain_input, Transaction, Locking}
 use Rattle.tx_context.specs.Limits.{IsFrame}
 use Rattle.tx_context.specs.World.{World, filled_input, filled_inputs, filled_context}
 use Rattle.tx_context.specs.Table as verdict
@@ -41,20 +41,17 @@ use Rattle.bch_vm.specs.Course.{Course, Gives, Stops, ◌>>◌, outcome_of}
 use Rattle.bch_vm.specs.Spend.{top_check, clean, spend_outcome}
 use Rattle.bch_vm.specs.Law.{unlocking_script, locking_script, decided_by, IsRedeemed, IsSmall}
 use Rattle.span_map.specs.declared.SpanRow.{SpanRow}
-use Rattle.span_map.specs.Places.{place_of, place_behind}
+use Rattle.span_map.specs.Places.{place_of, place_after}
 use Rattle.cash_compile.specs.Rows.{instructions, places, is_keyless, is_plain, AreFew}
 use Rattle.cash_tree.specs.declared.Param.{Param}
-use Rattle.cash_tree.specs.declared.Token.{Token}
-use Rattle.cash_lexer.specs.Tokens.{lexed}
-use Rattle.cash_lexer.specs.Laws.{IsCut}
 use Rattle.cash_base.specs.Source.{text_at}
 use Rattle.artifact_json.specs.Artifact.{Artifact, AbiParam, AbiCall, HasFewInputs}
-use Rattle.type_check.specs.Answer.{JudgedOnce}
-use Rattle.cash_names.specs.Outline.{NamedTree}
 use Rattle.cash_compile.specs.Compile.{IsAccepted}
 use Rattle.cash_compile.specs.Describes.{described_param, described_function, lossy_at, DescribesBy, Describes}
 use Rattle.script_codec.proofs.Sizes.{push_size}
-use Rattle.cash_compile.proofs.Words.{ParamsHave, FunctionHas, NamesHave, IsTextAt, names_are_texts}
+use Rattle.tx_context.proofs.Amounts.{active_in_frame}
+use Rattle.cash_parser.specs.Names.{ParamsHave, FunctionHas, NamesHave, IsTextAt}
+use Rattle.cash_compile.proofs.Words.{Laws, names_are_texts}
 use Rattle.cash_compile.specs.Runs.{AgreesAlone, FailsOrEndsFalse, EndsAs, DecidesByRun, AgreesByRun}
 use Rattle.unlocker.specs.Scripts.{handed_in, spending_script, redeem_script}
 use Rattle.cash_compile.specs.Correct.{IsSameCause, Agrees, spending_context, spending_world, SpendsAgree, Decides, is_limit, is_limited, MeetsNoLimit, IsCorrect}
@@ -62,13 +59,13 @@ use Rattle.cash_compile.specs.Correct.{IsSameCause, Agrees, spending_context, sp
 -- ---- what the unlocking script has at most
 
 -- pushes of elements in any order
-pushes_size : (xs behind : Stack) → AllByRecursion IsElement xs → length (spellings (map push (reverse_aux xs behind))) ≤ 523 * length xs + length (spellings (map push behind))
-pushes_size [] behind all = omega arith
-pushes_size (x ∷ xs) behind all =
+pushes_size : (xs after : Stack) → AllByRecursion IsElement xs → length (spellings (map push (reverse_aux xs after))) ≤ 523 * length xs + length (spellings (map push after))
+pushes_size [] after all = omega arith
+pushes_size (x ∷ xs) after all =
     let one = push_size x in
     let most = all.0.size in
-    let rest = pushes_size xs (x ∷ behind) all.1 in
-    let split = length-append (minimal_push x) (spellings (map push behind)) in
+    let rest = pushes_size xs (x ∷ after) all.1 in
+    let split = length-append (minimal_push x) (spellings (map push after)) in
     omega (arith, one, most, rest, split)
 
 unlocking_size : (args : Stack) (redeem : List ℕ) → AllByRecursion IsElement args → length args ≤ 16 → length redeem ≤ 520 → length (unlocking_script args redeem) ≤ 10000
@@ -144,8 +141,8 @@ active_from n (suc k) active locking unlocking (x ∷ xs) d at within =
 
 -- ---- the end of the redeem script
 
-abbrev behind : ℕ → Stack → MachineOutcome
-behind last stack = outcome_of (top_check Redeem EndFalse last stack >> Stops (clean Redeem last stack))
+abbrev after : ℕ → Stack → MachineOutcome
+after last stack = outcome_of (top_check Redeem EndFalse last stack >> Stops (clean Redeem last stack))
 
 abbrev checked_top : ℕ → Bool → Course (Unit {0})
 checked_top last t = if t then Gives tt else Stops (Refused Redeem last EndFalse)
@@ -154,10 +151,10 @@ abbrev end_by : ℕ → Bool → MachineOutcome
 end_by last t = outcome_of (checked_top last t >> Stops Accepted)
 
 one_left : (s : State) (e : List ℕ) (t : Bool) → s.board.stack ≡ e ∷ [] → truth_of e ≡ t → decided_by (Ok s) ≡ end_by s.progress.last t
-one_left s e t left is = ap (behind s.progress.last) left ∙ ap (end_by s.progress.last) is
+one_left s e t left is = ap (after s.progress.last) left ∙ ap (end_by s.progress.last) is
 
 -- where no constructor has pushes, the place is that of the row
-place_alone : (rows : List SpanRow) (at : ℕ) (cause : MachineCause) → place_behind rows 0 at cause ≡ place_of rows at cause
+place_alone : (rows : List SpanRow) (at : ℕ) (cause : MachineCause) → place_after rows 0 at cause ≡ place_of rows at cause
 place_alone rows at cause =
     let late : 0 ≤ at = omega arith in
     let index : at - 0 ≡ at = omega arith in
@@ -190,7 +187,7 @@ spend_agrees law reads contract rows h few args frame verdicts world count all s
     let redeem = spellings code in
     let locking = locking_script redeem in
     let unlocking = unlocking_script args redeem in
-    let active = active_from 0 frame.active frame.active locking unlocking frame.inputs (input_parts [] 0 0 0 [] []) (omega arith) within.active in
+    let active = active_from 0 frame.active frame.active locking unlocking frame.inputs (plain_input 0 [] []) (omega arith) (active_in_frame frame within) in
     let most : length args ≤ 16 = omega (arith, count, h.few) in
     let redeemed : IsRedeemed args code (filled_context frame locking unlocking) = record {
       are_elements = all;
@@ -327,16 +324,16 @@ described source contract program rows words h = record {
   inside = h.inside;
 }
 
-pub program_correct : (law : Law) (cut : (source : List ℕ) (tokens : List Token) → lexed source ≡ Ok tokens → IsCut 0 tokens source) (end : reading [] ≡ [])
+pub program_correct : (law : Law) (laws : Laws) (end : reading [] ≡ [])
     (front : (code : List Instr) (rest : List ℕ) → IsTrue (are_instructions code) → reading (spellings code ++ rest) ≡ map (λ instr. Whole (spelled instr)) code ++ reading rest)
     (meant : (instr : Instr) → IsTrue (is_instruction instr) → (instruction (spelled instr) ≡ instr) × IsTrue (is_minimal (spelled instr)) × (size_of (spelled instr) ≡ length (spelling instr)))
-    (judged : (tree : NamedTree) → JudgedOnce tree) (source : List ℕ) (contract : Contract Slot Ty) (rows : List Spanned) (program : Artifact) → IsAccepted source contract → AgreesByRun contract rows → AreFew rows
+    (source : List ℕ) (contract : Contract Slot Ty) (rows : List Spanned) (program : Artifact) → IsAccepted source contract → AgreesByRun contract rows → AreFew rows
     → program.code ≡ instructions rows → DescribesBy (lossy_at source) source contract program (map places rows) → IsCorrect source contract program
-program_correct law cut end front meant judged source contract rows program accepted h few code describes =
+program_correct law laws end front meant source contract rows program accepted h few code describes =
     let reads : Reads = record { end = end; front = front; meant = λ instr is. (meant instr is).0 } in
     record {
       rows = map places rows;
-      describes = described source contract program (map places rows) (names_are_texts cut judged source contract accepted) describes;
+      describes = described source contract program (map places rows) (names_are_texts laws source contract accepted) describes;
       spelled = subst (λ (c : List Instr). IsTrue (are_instructions c)) (sym code) h.spelled;
       agrees = subst (λ (c : List Instr). SpendsAgree contract c (map places rows)) (sym code) (spends_agree law reads contract rows h few);
     }

@@ -22,8 +22,8 @@ use Rattle.script_codec.specs.Spelling.{are_instructions}
 use Rattle.bch_vm.specs.Stack.{Stack}
 use Rattle.bch_vm.specs.Script.{State, Progress, state, beginning, run, balanced, run_end, Failure}
 use Rattle.span_map.specs.declared.SpanRow.{SpanRow}
-use Rattle.span_map.specs.Places.{place_in, place_of}
-use Rattle.cash_parser.specs.Inside.{IsInside}
+use Rattle.span_map.specs.Places.{place_of}
+use Rattle.cash_base.specs.Source.{place_in, IsInside}
 use Rattle.cash_compile.specs.Describes.{IsRowInside}
 use Rattle.cash_compile.specs.Rows.{RowFailure, run_rows, row, doings, instructions, places, is_span, are_rows_of, is_plain, code_size, AreFew}
 use Rattle.cash_compile.specs.Runs.{EndsAs, AgreesByRun}
@@ -124,9 +124,9 @@ same_inside : (len n : ℕ) (statement : Span) → IsInside len statement → Al
 same_inside len zero statement at = tt
 same_inside len (suc n) statement at = (at, same_inside len n statement at)
 
-behind : (len : ℕ) (first more : List Span) → AllByRecursion (IsInside len) first → AllByRecursion (IsInside len) more → AllByRecursion (IsInside len) (first ++ more)
-behind len [] more all further = further
-behind len (s ∷ first) more all further = (all.0, behind len first more all.1 further)
+after : (len : ℕ) (first more : List Span) → AllByRecursion (IsInside len) first → AllByRecursion (IsInside len) more → AllByRecursion (IsInside len) (first ++ more)
+after len [] more all further = further
+after len (s ∷ first) more all further = (all.0, after len first more all.1 further)
 
 both_inside : (len : ℕ) (rows : List SpanRow) → AllByRecursion (IsInside len) (map (λ r. r.doing) rows) → AllByRecursion (IsInside len) (map (λ r. r.checking) rows) → AllByRecursion (IsRowInside len) rows
 both_inside len [] done checked = tt
@@ -139,7 +139,7 @@ placed_inside contract rows len h inside =
     let value = subst (IsKindInside len) h.checks statements.0.1 in
     let at = statements.0.0 in
     both_inside len rows
-    (subst (AllByRecursion (IsInside len)) (sym h.done) (behind len (told_of h.value) (replicate (length h.function.params) h.statement.span) value (same_inside len (length h.function.params) h.statement.span at)))
+    (subst (AllByRecursion (IsInside len)) (sym h.done) (after len (told_of h.value) (replicate (length h.function.params) h.statement.span) value (same_inside len (length h.function.params) h.statement.span at)))
     (subst (AllByRecursion (IsInside len)) (sym h.checked) (same_inside len (length rows) h.statement.span at))
 
 -- ---- both runs end alike
@@ -164,7 +164,7 @@ ends statement rows args env (Ok v) end outcome all last (at, is) where_ =
 ends statement rows args env (Err failure) end outcome all last (r, is, place) where_ =
     let ran : Located rows 0 (Err (record { row = r; cause = Shared failure.cause })) outcome = subst (λ (e : Result State RowFailure). Located rows 0 e outcome) is where_ in
     let found : place_of (map places rows) ran.0 (Shared failure.cause) ≡ Some failure.span =
-    ap (option_map (λ p. place_in p (Shared failure.cause))) (slice_get-map places rows ran.0 ∙ ap (option_map places) ran.1) ∙ ap Some place in
+    ap (option_map (λ p. place_in p.doing p.checking (Shared failure.cause))) (slice_get-map places rows ran.0 ∙ ap (option_map places) ran.1) ∙ ap Some place in
     let index : 0 + ran.0 ≡ ran.0 = omega arith in
     let there : place_of (map places rows) (0 + ran.0) (Shared failure.cause) ≡ Some failure.span =
     ap (λ (n : ℕ). place_of (map places rows) n (Shared failure.cause)) index ∙ found in

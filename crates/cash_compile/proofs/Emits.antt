@@ -5,6 +5,7 @@ use Rattle.std.proofs.lemmas.Option.{slice_get_within, slice_get-get_or}
 use Rattle.std.proofs.lemmas.List.{get_or-append-add, length-append}
 use Rattle.arrayvec.specs.ArrayVec.{ArrayVec}
 use Rattle.cash_base.specs.declared.place.Slot.{Slot}
+use Rattle.cash_base.specs.Source.{place_in}
 use Rattle.cash_base.specs.declared.place.Span.{Span}
 use Rattle.cash_base.specs.declared.fault.Cause.{Cause}
 use Rattle.cash_base.specs.declared.fault.Cause.TheVariants.{CheckFailed, NotANumber}
@@ -13,7 +14,7 @@ use Rattle.cash_base.specs.Failing.{◌>>=◌}
 use Rattle.cash_base.specs.Number.{minimal_bytes, number_of}
 use Rattle.element_ops.specs.declared.op.Op2.TheVariants.{NumEqual}
 use Rattle.std.specs.Ordering.{int_eq}
-use Rattle.element_ops.specs.Operand.{operand_number, number_or_cause, truth_element}
+use Rattle.element_ops.specs.Operand.{truth_element}
 use Rattle.element_ops.specs.Operation.{result2}
 use Rattle.cash_base.proofs.Laws.{number_of-minimal_bytes}
 use Rattle.cash_tree.specs.declared.ExprKind.TheOpen.{ExprKind-F}
@@ -32,15 +33,15 @@ use Rattle.bch_vm.specs.Board.{board}
 use Rattle.cash_compile.specs.declared.emission.Emitter.{Emitter}
 use Rattle.std.specs.Prelude.{◌&&◌}
 use Rattle.std.proofs.lemmas.Bool.{and_from, eq-eqb}
-use Rattle.span_map.specs.Places.{place_in}
-use Rattle.cash_compile.specs.Rows.{RowFailure, failed_at, run_rows, row, places, is_span, is_plain, is_row_of, are_rows_of}
+use Rattle.cash_base.specs.Operand.{operand_number, number_or_cause}
+use Rattle.cash_compile.specs.Rows.{RowFailure, failed_at, run_rows, row, is_span, is_plain, is_row_of, are_rows_of}
 use Rattle.cash_compile.specs.Emission.{Leaves, Follows, Emits}
 use Rattle.cash_compile.proofs.Rows.{rows_in_turn}
 
 abbrev pub opcode : ℕ → Instr
 opcode n = Do (record { 0 = n })
 
--- behind an executed instruction
+-- after an executed instruction
 abbrev pub next : Progress → Progress
 next p = record { at = p.at + 1; last = p.at }
 
@@ -112,7 +113,7 @@ after_part below rows (Ok x) next f under (at, is) then = subst (λ n. Leaves un
 after_part below rows (Err failure) next f under (r, is, place) then = (r, ap (λ n. n >>= run_rows rows) is, place)
 
 -- a cause other than a false check is told at the operation
-told_at_operation : (r : Spanned) (cause : Cause) → (cause ≡ CheckFailed → ⊥) → place_in (places r) (Shared cause) ≡ r.doing
+told_at_operation : (r : Spanned) (cause : Cause) → (cause ≡ CheckFailed → ⊥) → place_in r.doing r.checking (Shared cause) ≡ r.doing
 told_at_operation r CheckFailed other = absurd (other refl)
 told_at_operation r _ other = refl
 

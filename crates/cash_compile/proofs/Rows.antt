@@ -28,9 +28,9 @@ Located rows at (Ok s) outcome = outcome ≡ Ok s
 Located rows at (Err f) outcome = (k : ℕ) × (slice_get rows k ≡ Some f.row) × (outcome ≡ Err (record { at = at + k; cause = f.cause }))
 
 -- a row more in front
-behind_row : (r : Spanned) (rows : List Spanned) (at : ℕ) (end : Result State RowFailure) (outcome : Result State Failure) → Located rows (at + 1) end outcome → Located (r ∷ rows) at end outcome
-behind_row r rows at (Ok s) outcome h = h
-behind_row r rows at (Err f) outcome (k, found, is) =
+after_row : (r : Spanned) (rows : List Spanned) (at : ℕ) (end : Result State RowFailure) (outcome : Result State Failure) → Located rows (at + 1) end outcome → Located (r ∷ rows) at end outcome
+after_row r rows at (Ok s) outcome h = h
+after_row r rows at (Err f) outcome (k, found, is) =
     let index : at + 1 + k ≡ at + suc k = omega arith in
     (suc k, found, is ∙ ap (λ (n : ℕ). Err (record { at = n; cause = f.cause })) index)
 
@@ -39,7 +39,7 @@ first_row : (r : Spanned) (rows : List Spanned) (s : State) (after : Result Boar
     → Located (r ∷ rows) s.progress.at
     (failed_at r (passed s.progress.at (progress_after r.instr s.board.conditions s.progress) after) >>= run_rows rows)
     (passed s.progress.at (progress_after r.instr s.board.conditions s.progress) after >>= run (instructions rows))
-first_row r rows s (Ok b) more = behind_row r rows s.progress.at _ _ (more b)
+first_row r rows s (Ok b) more = after_row r rows s.progress.at _ _ (more b)
 first_row r rows s (Err cause) more =
     let index : s.progress.at ≡ s.progress.at + 0 = omega arith in
     (0, refl, ap (λ (n : ℕ). Err (record { at = n; cause = cause })) index)

@@ -17,19 +17,19 @@ use Rattle.cash_lexer.specs.declared.piece.Piece.TheVariants.{Gap, Known, Flawed
 use Rattle.cash_lexer.specs.declared.piece.Flaw.{Flaw}
 use Rattle.cash_lexer.specs.declared.piece.Flaw.TheVariants as flaws
 use Rattle.cash_lexer.specs.Rows.{piece_of}
-use Rattle.cash_lexer.specs.Tokens.{Find, span_at, fault_of, finds_with, finds_behind, with_front, all_of, lexed}
+use Rattle.cash_lexer.specs.Tokens.{Find, span_at, fault_of, finds_with, finds_after, with_front, all_of, lexed}
 use Rattle.cash_parser.specs.declared.fault.ParseFault.{ParseFault}
 use Rattle.cash_parser.specs.declared.fault.ParseFault.TheVariants as parser
-use Rattle.cash_parser.specs.declared.fault.DepthRule.{DepthRule}
+use Rattle.cash_symbols.specs.declared.fault.DepthRule.{DepthRule}
 use Rattle.cash_parser.specs.Answer.{IsNone}
-use Rattle.cash_parser.specs.Lexemes.{Lexeme, lexemes}
-use Rattle.cash_parser.specs.DepthRules.{deepest_token}
+use Rattle.cash_symbols.specs.Lexemes.{Lexeme, lexemes}
+use Rattle.cash_symbols.specs.DepthRules.{first_too_deep}
 use Rattle.cash_parser.specs.Files.{Tree, SpellsFile}
-use Rattle.cash_names.specs.declared.fault.NameFault.{NameFault}
+use Rattle.name_scopes.specs.declared.fault.NameFault.{NameFault}
 use Rattle.cash_names.specs.Outline.{NamedTree}
 use Rattle.cash_names.specs.Scopes.{IsNamed, first_name_fault}
 use Rattle.cash_names.specs.Answer.{HasOne, HasNone, HasFault}
-use Rattle.type_check.specs.declared.fault.TypeFault.{TypeFault}
+use Rattle.type_tables.specs.declared.fault.TypeFault.{TypeFault}
 use Rattle.type_check.specs.Typing.{TypesContract}
 use Rattle.type_check.specs.Answer.{first_type_fault, JudgedOnce}
 use Rattle.cash_compile.specs.declared.refusal.Refusal.{Refusal}
@@ -95,11 +95,11 @@ text_or_bytes source text none = none text.utf8
 tokens_or_fault : (source : List ℕ) (tokens : List Token) (fault : LexFault) → HasTokens source tokens → lexed source ≡ Err fault → ⊥
 tokens_or_fault source tokens fault h is = never_same tokens fault (sym h.found ∙ is)
 
-shallow_or_deep : (ts : List Lexeme) (deep : DepthRule × Span) → deepest_token ts ≡ None → deepest_token ts ≡ Some deep → ⊥
+shallow_or_deep : (ts : List Lexeme) (deep : DepthRule × Span) → first_too_deep ts ≡ None → first_too_deep ts ≡ Some deep → ⊥
 shallow_or_deep ts deep none some = let same : None ≡ Some deep = sym none ∙ some in cc
 
 -- a fault of the tokens of a source that has a tree
-fault_or_tree : (source : List ℕ) (tokens : List Token) (tree : Tree) (count : ℕ) (fault : ParseFault) → deepest_token (lexemes source tokens) ≡ None → SpellsFile (lexemes source tokens) tree → IsFaultOf (lexemes source tokens) count fault → ⊥
+fault_or_tree : (source : List ℕ) (tokens : List Token) (tree : Tree) (count : ℕ) (fault : ParseFault) → first_too_deep (lexemes source tokens) ≡ None → SpellsFile (lexemes source tokens) tree → IsFaultOf (lexemes source tokens) count fault → ⊥
 fault_or_tree source tokens tree count (parser.TooDeep rule span) shallow spelled is = shallow_or_deep (lexemes source tokens) (rule, span) shallow is
 fault_or_tree source tokens tree count (parser.Syntax token) shallow spelled is = is.1 tree spelled
 fault_or_tree source tokens tree count parser.Memory shallow spelled is = is
@@ -260,13 +260,13 @@ by_names : Laws → (source : List ℕ) (tree : Tree) → HasTree source tree �
 by_names laws source tree h (inl (named, is)) = by_types laws source named (first_type_fault named) refl (record { tree = tree; parsed = h; names = is })
 by_names laws source tree h (inr (fault, is)) = inr (Name fault, (tree, h, is))
 
-by_tree : Laws → (source : List ℕ) (tokens : List Token) → deepest_token (lexemes source tokens) ≡ None → HasTokens source tokens
+by_tree : Laws → (source : List ℕ) (tokens : List Token) → first_too_deep (lexemes source tokens) ≡ None → HasTokens source tokens
     → ((tree : Tree) × SpellsFile (lexemes source tokens) tree) ⊎ IsNone (lexemes source tokens) → IsDecided source
 by_tree laws source tokens shallow h (inl (tree, spelled)) =
     by_names laws source tree (record { tokens = tokens; cut = h; shallow = shallow; spelled = spelled }) (laws.either source tree)
 by_tree laws source tokens shallow h (inr none) = inr (Parse (parser.Syntax 0), (tokens, h, (shallow, none, omega arith)))
 
-by_depth : Laws → (source : List ℕ) (tokens : List Token) (deep : Option (DepthRule × Span)) → deepest_token (lexemes source tokens) ≡ deep → HasTokens source tokens → IsDecided source
+by_depth : Laws → (source : List ℕ) (tokens : List Token) (deep : Option (DepthRule × Span)) → first_too_deep (lexemes source tokens) ≡ deep → HasTokens source tokens → IsDecided source
 by_depth laws source tokens (Some deep) is h = inr (Parse (parser.TooDeep deep.0 deep.1), (tokens, h, is))
 by_depth laws source tokens None is h = by_tree laws source tokens is h (laws.spelled (lexemes source tokens))
 
@@ -287,23 +287,23 @@ front_sure : (front : List Token) (more : Result (List Token) LexFault) → Sure
 front_sure front (Ok tokens) sure = tt
 front_sure front (Err fault) sure = sure
 
-piece_sure : (at : ℕ) (piece : Option Piece) (behind : ℕ → List Find) → ((len : ℕ) → Sure (all_of (behind len))) → Sure (all_of (finds_with at piece behind))
-piece_sure at None behind sure = tt
-piece_sure at (Some (Gap len)) behind sure = sure len
-piece_sure at (Some (Known kind len)) behind sure =
+piece_sure : (at : ℕ) (piece : Option Piece) (after : ℕ → List Find) → ((len : ℕ) → Sure (all_of (after len))) → Sure (all_of (finds_with at piece after))
+piece_sure at None after sure = tt
+piece_sure at (Some (Gap len)) after sure = sure len
+piece_sure at (Some (Known kind len)) after sure =
     let token : Token = record { kind = kind; span = span_at at len } in
-    front_sure (token ∷ []) (all_of (behind len)) (sure len)
-piece_sure at (Some (Flawed flaw len)) behind sure = flaw_sure flaw (span_at at len)
+    front_sure (token ∷ []) (all_of (after len)) (sure len)
+piece_sure at (Some (Flawed flaw len)) after sure = flaw_sure flaw (span_at at len)
 
-finds_sure : (skipped at : ℕ) (text : List ℕ) → Sure (all_of (finds_behind skipped at text))
-unfolding finds_behind
+finds_sure : (skipped at : ℕ) (text : List ℕ) → Sure (all_of (finds_after skipped at text))
+unfolding finds_after
 finds_sure skipped at [] = tt
 finds_sure (suc skipped) at (byte ∷ rest) = finds_sure skipped (at + 1) rest
 finds_sure zero at (byte ∷ rest) =
-    piece_sure at (piece_of (byte ∷ rest)) (λ len. finds_behind (len - 1) (at + 1) rest) (λ len. finds_sure (len - 1) (at + 1) rest)
+    piece_sure at (piece_of (byte ∷ rest)) (λ len. finds_after (len - 1) (at + 1) rest) (λ len. finds_sure (len - 1) (at + 1) rest)
 
 by_tokens : Laws → (source : List ℕ) (found_ : Result (List Token) LexFault) → lexed source ≡ found_ → Sure found_ → IsText source → IsDecided source
-by_tokens laws source (Ok tokens) is sure h = by_depth laws source tokens (deepest_token (lexemes source tokens)) refl (record { text = h; found = is })
+by_tokens laws source (Ok tokens) is sure h = by_depth laws source tokens (first_too_deep (lexemes source tokens)) refl (record { text = h; found = is })
 by_tokens laws source (Err fault) is sure h = inr (Lex fault, (h, is, sure))
 
 by_utf8 : Laws → (source : List ℕ) (test : Bool) → is_utf8 source ≡ test → length source ≤ max_source_len → IsDecided source

@@ -10,8 +10,8 @@ use Rattle.cash_lexer.specs.declared.fault.LexFault.TheVariants as lexer
 use Rattle.cash_lexer.specs.Tokens.{lexed}
 use Rattle.cash_parser.specs.declared.fault.ParseFault.{ParseFault}
 use Rattle.cash_parser.specs.declared.fault.ParseFault.TheVariants as parser
-use Rattle.cash_parser.specs.Lexemes.{Lexeme, lexemes}
-use Rattle.cash_parser.specs.DepthRules.{deepest_token}
+use Rattle.cash_symbols.specs.Lexemes.{Lexeme, lexemes}
+use Rattle.cash_symbols.specs.DepthRules.{first_too_deep}
 use Rattle.cash_parser.specs.Files.{Tree, SpellsFile}
 use Rattle.cash_parser.specs.Answer.{IsNone}
 use Rattle.cash_names.specs.Outline.{NamedTree}
@@ -45,7 +45,7 @@ pub record HasTokens (source : List ℕ) (tokens : List Token) : Type 0 where
 pub record HasTree (source : List ℕ) (tree : Tree) : Type 0 where
   pub tokens : List Token
   pub cut : HasTokens source tokens
-  pub shallow : deepest_token (lexemes source tokens) ≡ None
+  pub shallow : first_too_deep (lexemes source tokens) ≡ None
   pub spelled : SpellsFile (lexemes source tokens) tree
 
 -- ... whose pragmas are met, and which this tree names: slots stand in it for names
@@ -78,8 +78,8 @@ pub record IsCompiled (source : List ℕ) (contract : Contract Slot Ty) (program
 
 -- the fault of these tokens, of which there are so many: the first that is too deep, or else that they spell no tree
 abbrev pub IsFaultOf : List Lexeme → ℕ → ParseFault → Type 0
-IsFaultOf ts count (parser.TooDeep rule span) = deepest_token ts ≡ Some (rule, span)
-IsFaultOf ts count (parser.Syntax token) = (deepest_token ts ≡ None) × IsNone ts × (token ≤ count)
+IsFaultOf ts count (parser.TooDeep rule span) = first_too_deep ts ≡ Some (rule, span)
+IsFaultOf ts count (parser.Syntax token) = (first_too_deep ts ≡ None) × IsNone ts × (token ≤ count)
 IsFaultOf ts count parser.Memory = ⊥
 
 -- The first stage that gives nothing gives this refusal. Memory stands in no source.

@@ -28,7 +28,7 @@ use Rattle.script_codec.specs.Spelling.{are_instructions}
 use Rattle.artifact_json.specs.Artifact.{Artifact}
 use Rattle.cash_compile.specs.Describes.{Describes}
 use Rattle.span_map.specs.declared.SpanRow.{SpanRow}
-use Rattle.span_map.specs.Places.{place_behind}
+use Rattle.span_map.specs.Places.{place_after}
 use Rattle.unlocker.specs.Scripts.{redeem_script, spending_script}
 
 -- ---- what a spend is built of
@@ -54,7 +54,7 @@ IsSameCause cause fault = (cause ≡ Shared fault) ⊎ ((cause ≡ EndFalse) × 
 -- else goes together.
 abbrev pub Agrees : List SpanRow → ℕ → MachineOutcome → SourceOutcome → Type 0
 Agrees rows before Accepted Met = Unit {0}
-Agrees rows before (Refused Redeem at cause) (Failed span fault) = (place_behind rows before at cause ≡ Some span)
+Agrees rows before (Refused Redeem at cause) (Failed span fault) = (place_after rows before at cause ≡ Some span)
     × IsSameCause cause fault
 Agrees rows before _ _ = ⊥
 

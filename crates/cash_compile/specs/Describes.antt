@@ -8,8 +8,7 @@ use Rattle.cash_tree.specs.declared.Ty.{Ty}
 use Rattle.cash_tree.specs.declared.Param.{Param}
 use Rattle.cash_tree.specs.declared.Function.{Function}
 use Rattle.cash_tree.specs.declared.Contract.{Contract}
-use Rattle.cash_parser.specs.Inside.{IsInside}
-use Rattle.cash_base.specs.Source.{text_at}
+use Rattle.cash_base.specs.Source.{text_at, IsInside}
 use Rattle.span_map.specs.declared.SpanRow.{SpanRow}
 use Rattle.artifact_json.specs.Artifact.{Artifact, AbiParam, AbiCall}
 

@@ -13,7 +13,7 @@ use Rattle.cash_tree.specs.declared.StmtKind.TheVariants.{Require}
 use Rattle.cash_tree.specs.declared.Expr.{Expr}
 use Rattle.cash_tree.specs.declared.ExprKind.TheOpen.{ExprKind-F, Expr-F}
 use Rattle.cash_tree.specs.declared.ExprKind.TheFolds.{fold-Expr}
-use Rattle.cash_parser.specs.Inside.{IsInside}
+use Rattle.cash_base.specs.Source.{IsInside, place_in}
 use Rattle.source_meaning.specs.declared.outcome.Failure as source
 use Rattle.source_meaning.specs.Meaning.{Env, Value}
 use Rattle.source_meaning.specs.Runnable.{HaveSlotsFrom, IsRunnable, nodes}
@@ -22,8 +22,7 @@ use Rattle.bch_vm.specs.Stack.{Stack}
 use Rattle.bch_vm.specs.Script.{State, Progress, state}
 use Rattle.cash_compile.specs.declared.emission.Emitter.{Emitter}
 use Rattle.span_map.specs.declared.SpanRow.{SpanRow}
-use Rattle.span_map.specs.Places.{place_in}
-use Rattle.cash_compile.specs.Rows.{RowFailure, run_rows, places}
+use Rattle.cash_compile.specs.Rows.{RowFailure, run_rows}
 
 -- ---- what can be emitted
 
@@ -48,7 +47,7 @@ pub record IsEmittable (contract : Contract Slot Ty) : Type 0 where
 
 -- ---- where emitted code has its places
 
--- An expression's own place, once for each instruction of its own, behind those of its parts. The other forms can't be
+-- An expression's own place, once for each instruction of its own, after those of its parts. The other forms can't be
 -- emitted yet.
 abbrev pub kind_told : ExprKind-F Slot Ty (Span → List Span) (List Span) → Span → List Span
 kind_told (ExprKind-F.Int digits unit) span = span ∷ []
@@ -62,7 +61,7 @@ node_told e = e.kind e.span
 abbrev pub told_of : Expr Slot Ty → List Span
 told_of = fold-Expr Slot Ty (Span → List Span) (List Span) kind_told node_told
 
--- The rows of a contract's one statement: those of its value, and behind them one for each parameter that is dropped, which
+-- The rows of a contract's one statement: those of its value, and after them one for each parameter that is dropped, which
 -- has the statement's own place. Each of them belongs to this statement.
 pub record ArePlaced (contract : Contract Slot Ty) (rows : List SpanRow) : Type 0 where
   pub function : Function Slot Ty
@@ -98,7 +97,7 @@ Leaves below (Ok e) next = (at : Progress) × (next ≡ Ok (state (e ∷ below) 
 Leaves below (Err failure) next =
     (r : Spanned)
     × (next ≡ Err (record { row = r; cause = Shared failure.cause }))
-    × (place_in (places r) (Shared failure.cause) ≡ failure.span)
+    × (place_in r.doing r.checking (Shared failure.cause) ≡ failure.span)
 
 -- above so many operands, and below them the elements of the parameters, the rows leave the value
 pub record Follows (params depth : ℕ) (rows : List Spanned) (value : Value) : Type 0 where

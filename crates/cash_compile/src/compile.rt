@@ -25,12 +25,12 @@ use crate::refusal::Refusal;
 use artifact_json::Program;
 use bch_vm::laws::spend_is_decided;
 use cash_base::Memory;
-use cash_lexer::tokens_cut_the_source;
+use cash_lexer::words_have_texts;
 use cash_names::one_answer;
-use cash_parser::one_tree;
+use cash_parser::{names_have_texts, one_tree};
 use cash_tree::TypedContract;
 use script_codec::Spanned;
-use script_codec::laws::{meaning_of_spelled, reading_behind_encoded, reading_in_turn};
+use script_codec::laws::{meaning_of_spelled, reading_after_encoded, reading_in_turn};
 use std::alloc::Global;
 use type_check::judged_once;
 
@@ -89,11 +89,12 @@ fn correct_program(
     ensures updated { IfOk result (λ program. program.updated ≡ updated.now) }
     ensures few { IfOk result (λ program. HasFewInputs program) }
 {
-    tokens_cut_the_source();
+    words_have_texts();
+    names_have_texts();
     judged_once();
     spend_is_decided();
     reading_in_turn();
-    reading_behind_encoded();
+    reading_after_encoded();
     meaning_of_spelled();
     let program = program_of(alloc, source, updated, contract, rows)?;
     Ok(program)

@@ -8,8 +8,6 @@ pub mod emission;
 mod form;
 pub mod reading;
 pub mod refusal;
-#[cfg(test)]
-mod run_tests;
 
 pub use reading::MAX_SOURCE_LEN;
 pub use refusal::Refusal;

@@ -3,9 +3,10 @@
 ghost use Rattle.std.specs.Prelude.{◌≡◌, ◌≢◌, ◌≤◌, ◌<◌, ◌^◌, length, IfOk, IfErr, IsTrue};
 ghost use Rattle.cash_compile.specs.declared.refusal.Refusal.TheVariants.{Memory};
 ghost use Rattle.cash_base.specs.declared.place.Slot.{Slot};
+ghost use Rattle.cash_base.specs.Source.{AreInside};
 ghost use Rattle.cash_tree.specs.declared.Ty.{Ty};
 ghost use Rattle.cash_tree.specs.declared.Contract.{Contract as CashContract};
-ghost use Rattle.cash_parser.specs.Inside.{AreInside, tree_spans};
+ghost use Rattle.cash_tree.specs.Spans.{itself, tree_spans};
 ghost use Rattle.type_check.specs.Untyped.{untyped_contract};
 ghost use Rattle.cash_compile.specs.Form.{is_equality};
 ghost use Rattle.cash_compile.specs.Emission.{IsContractInside};
@@ -13,7 +14,7 @@ ghost use Rattle.cash_compile.specs.Compile.{IsText, HasTokens, HasTree, HasName
 
 use crate::refusal::Refusal;
 use cash_lexer::LexFault;
-use cash_names::{NameFault, resolve};
+use cash_names::{NameFault, resolve, spans_are_kept};
 use cash_parser::{ParseFault, parse, spans_come_apart, tokens_stand_in_order};
 use cash_tree::{NamedTree, Token, Tree, TypedContract};
 use std::alloc::Global;
@@ -60,7 +61,7 @@ fn tokens_of(alloc: Global, text: &str) -> Result<Vec<Token>, Refusal>
 fn tree_of(alloc: Global, text: &str) -> Result<Tree, Refusal>
     requires { IsText text.now }
     ensures parsed { IfOk result (λ tree. HasTree text.now tree) }
-    ensures inside { IfOk result (λ tree. AreInside (length text.now) (tree_spans tree)) }
+    ensures inside { IfOk result (λ tree. AreInside (length text.now) (tree_spans itself tree)) }
     ensures refused { IfErr result (λ refusal. refusal ≢ Memory → IsRefused text.now refusal) }
     ensures stage { IfErr result (λ refusal. stage refusal ≤ 4) }
 {
@@ -83,6 +84,7 @@ fn named_tree_of(alloc: Global, source: &[u8]) -> Result<NamedTree, Refusal>
     ensures stage { IfErr result (λ refusal. stage refusal ≤ 5) }
 {
     spans_come_apart();
+    spans_are_kept();
     let text = text_of(source)?;
     let tree = tree_of(alloc, text)?;
     match resolve(alloc, text, &tree) {

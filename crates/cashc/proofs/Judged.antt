@@ -27,7 +27,7 @@ use Rattle.bch_vm.specs.Law.{locking_script}
 use Rattle.bch_vm.specs.Spend.{spend_outcome}
 use Rattle.span_map.specs.declared.SpanRow.{SpanRow}
 use Rattle.span_map.specs.Lines.{line_col}
-use Rattle.span_map.specs.Places.{place_behind}
+use Rattle.span_map.specs.Places.{place_after}
 use Rattle.artifact_json.specs.Artifact.{Artifact, AbiCall, HasFewInputs}
 use Rattle.unlocker.specs.declared.BuildFault.{BuildFault}
 use Rattle.unlocker.specs.declared.BuildFault.TheVariants.{WrongCount, RedeemTooLong}
@@ -92,8 +92,8 @@ abbrev with_redeem : List ℕ → List ℕ → Result Scripts SpendStop
 with_redeem redeem unlocking = Ok (redeem, unlocking)
 
 -- what the unlocking script comes to, by the function that is found
-abbrev behind_redeem : List (List ℕ) → List ℕ → List ℕ → Option AbiCall → Result Scripts SpendStop
-behind_redeem args redeem s found =
+abbrev after_redeem : List (List ℕ) → List ℕ → List ℕ → Option AbiCall → Result Scripts SpendStop
+after_redeem args redeem s found =
     or_stop (chosen_function found >>= λ function. count_check (length function.inputs) (length args) >>= λ c. Ok s) >>= with_redeem redeem
 
 by_count : (t : Bool) (s redeem : List ℕ) (wanted found : ℕ) (fault : BuildFault) (stop : InputStop)
@@ -129,7 +129,7 @@ miscounted source contract program form h few args fault stop some is told =
     (RedeemTooLong (capped (length redeem))) (λ r. or_stop (built_unlocking program 0 args r) >>= λ unlocking. Ok (r, unlocking))
     (eq-eqb (length program.ctor) 0 none) (le-leb (length redeem) 520 h.fits) in
     let found : slice_get program.abi 0 ≡ Some call = ap (λ (l : List AbiCall). slice_get l 0) one in
-    let called = ap (behind_redeem args redeem s) (sym found) ∙ sym past ∙ is in
+    let called = ap (after_redeem args redeem s) (sym found) ∙ sym past ∙ is in
     let counts = by_count (length call.inputs == length args) s redeem (capped (length call.inputs)) (capped (length args)) fault stop called told in
     let wanted : capped (length call.inputs) ≡ length f.params = small (length call.inputs) inputs ∙ sym size in (
       f,
@@ -159,7 +159,7 @@ same_name cause fault (inr is) = ap placed_name is.0 ∙ ap cause_name (sym is.1
 -- a refusal at a row of the redeem script is told as a failure at the place of the row
 abbrev ToldAs : List ℕ → List SpanRow → MachineOutcome → Option Span → Type 0
 ToldAs source rows outcome place = (at : ℕ) (cause : MachineCause) (span : Span) (fault : Cause) → outcome ≡ Refused Redeem at cause
-    → place_behind rows 0 at cause ≡ Some span → placed_name cause ≡ cause_name fault
+    → place_after rows 0 at cause ≡ Some span → placed_name cause ≡ cause_name fault
     → verdict_line outcome (told_place source place) ≡ failure_line (line_col source span.from) fault at
 
 pub verdict_told : (source : List ℕ) (rows : List SpanRow) (run : SourceOutcome) (outcome : MachineOutcome) (place : Option Span) → Agrees rows 0 outcome run
@@ -179,7 +179,7 @@ verdict_told source rows (Failed span fault) (Refused Locking at cause) place ag
 -- the law of failures: a refusal in the redeem script is told as a failure at the place of its row
 abbrev pub FailureLaw : Type 0
 FailureLaw = (program : Artifact) (spend : SpendParts) (rows : List SpanRow) (at : ℕ) (cause : MachineCause) (span : Span) (fault : Cause) (source : List ℕ)
-    → program.spans ≡ Some rows → outcome_of program spend ≡ Refused Redeem at cause → place_behind rows (length spend.ctor) at cause ≡ Some span
+    → program.spans ≡ Some rows → outcome_of program spend ≡ Refused Redeem at cause → place_after rows (length spend.ctor) at cause ≡ Some span
     → placed_name cause ≡ cause_name fault
     → verdict_line (told_of program spend).outcome (told_place source (told_of program spend).place)
     ≡ failure_line (line_col source span.from) fault at
@@ -226,16 +226,10 @@ told law built_law source contract program form h spend args redeem unlocking re
 -- the transaction of which nothing is given is a frame
 pub plain_is_frame : IsFrame plain_frame
 plain_is_frame = record {
-  version = omega arith;
+  limits = refl;
   locktime = omega arith;
-  input_count = omega arith;
-  output_count = omega arith;
-  active = omega arith;
-  numbers = refl;
-  input_values = refl;
-  output_values = refl;
-  input_bytecodes = refl;
-  output_bytecodes = refl;
+  inputs = refl;
+  outputs = refl;
 }
 
 -- what is shown is a report that was judged

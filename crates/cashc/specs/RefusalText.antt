@@ -10,10 +10,10 @@ use Rattle.cash_lexer.specs.declared.fault.LexFault.TheVariants as lexer
 use Rattle.cash_lexer.specs.Tokens.{lexed}
 use Rattle.cash_parser.specs.declared.fault.ParseFault.{ParseFault}
 use Rattle.cash_parser.specs.declared.fault.ParseFault.TheVariants as parser
-use Rattle.cash_names.specs.declared.fault.NameFault.{NameFault}
-use Rattle.cash_names.specs.declared.fault.NameFault.TheVariants as names
-use Rattle.type_check.specs.declared.fault.TypeFault.{TypeFault}
-use Rattle.type_check.specs.declared.fault.TypeFault.TheVariants as types
+use Rattle.name_scopes.specs.declared.fault.NameFault.{NameFault}
+use Rattle.name_scopes.specs.declared.fault.NameFault.TheVariants as names
+use Rattle.type_tables.specs.declared.fault.TypeFault.{TypeFault}
+use Rattle.type_tables.specs.declared.fault.TypeFault.TheVariants as types
 use Rattle.cash_compile.specs.declared.refusal.Refusal.{Refusal}
 use Rattle.cash_compile.specs.declared.refusal.Refusal.TheVariants.{SourceTooLong, NotUtf8, Lex, Parse, Name, Typing, NotBuilt, Memory}
 use Rattle.span_map.specs.Lines.{line_col}

@@ -263,8 +263,9 @@ fn report_of(alloc: Global, program: &Program, args: Vec<Element>) -> Result<Rep
 fn plain_spend(alloc: Global, args: Vec<Element>) -> Result<Spend, Memory>
     ensures { IfOk result (λ spend. spend ≡ TopCall.plain_spend (map (λ e. e.items) args.items)) }
 {
-    let Ok(verdicts) = Verdicts::from_rows(Vec::new(alloc)) else {
-        unreachable!();
+    // A table without rows has no fault but want of memory.
+    let Ok(verdicts) = Verdicts::from_rows(alloc, Vec::new(alloc)) else {
+        return Err(Memory);
     };
     Ok(Spend {
         ctor: Vec::new(alloc),

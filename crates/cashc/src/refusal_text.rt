@@ -164,7 +164,7 @@ fn typing_text(alloc: Global, source: &[u8], fault: TypeFault) -> Result<String,
 
 /// The line that refuses a source.
 ///
-/// It is `refused LINE:COL NAME`, where the name is that of the innermost fault, and behind Mismatch come both types, as
+/// It is `refused LINE:COL NAME`, where the name is that of the innermost fault, and after Mismatch come both types, as
 /// ` wanted TYPE found TYPE`; `refused NotUtf8 AT`; or `refused SourceTooLong`. A Syntax stands at its token, or at the
 /// end of the source.
 ///

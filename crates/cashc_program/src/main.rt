@@ -1,13 +1,8 @@
 //! `cashc`: the compiler of contracts for Bitcoin Cash.
 #![tactic(auto)]
 
-mod commands;
-mod refusal_text;
-#[cfg(test)]
-mod tests;
-pub mod top_call;
-
 use cash_base::{FileStore, StreamSink};
+use cashc::top_call::cashc;
 use std::env;
 use std::io::{self, ErrorKind};
 use std::process::ExitCode;
@@ -26,7 +21,8 @@ fn main(rt: HostRuntime) -> ExitCode {
     let mut store = FileStore::new(&rt);
     let mut out = StreamSink::new(rt.stdout());
     let mut err = StreamSink::new(rt.stderr());
-    ExitCode::from(top_call::cashc(rt.alloc(), words.as_slice(), &mut store, &mut out, &mut err))
+    let status = cashc(rt.alloc(), words.as_slice(), &mut store, &mut out, &mut err);
+    ExitCode::from(status)
 }
 
 /// The words after the program's name.

@@ -1,6 +1,6 @@
 use Rattle.std.proofs.Common.{sym, ◌∙◌}
 use Rattle.cash_compile.proofs.Accepted.{equality_runs_on_two}
-use Rattle.cash_compile.proofs.run_tests.compiled_of.Goals as goal
+use Rattle.compile_cases.proofs.spends.compiled_of.Goals as goal
 
 pub returns-in-Some-clause-runnable : goal.returns-in-Some-clause-runnable
 returns-in-Some-clause-runnable c =

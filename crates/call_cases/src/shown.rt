@@ -1,0 +1,77 @@
+//! What is printed of what a call writes.
+
+use anyhow::Result;
+use std::alloc::AllocError;
+
+/// Whether a word is bytes in hexadecimal.
+fn is_hex(word: &str) -> bool {
+    let even = word.len() % 2 == 0;
+    even && word
+        .bytes()
+        .all(|b| b.is_ascii_digit() || (b'a'..=b'f').contains(&b))
+}
+
+/// What stands before the last so many bytes of a word, which push the redeem script.
+fn before_push<'w>(word: &'w str, redeem: &str) -> Option<&'w str> {
+    let front = word.strip_suffix(redeem)?;
+    let (front, size) = front.split_at_checked(front.len().checked_sub(2)?)?;
+    let size = usize::from_str_radix(size, 16).ok()?;
+    if size != redeem.len() / 2 {
+        return None;
+    }
+    Some(front)
+}
+
+/// Prints a line; in place of code, of the script that it becomes, of that script's hash and of an index in it stands `..`.
+fn show_line(text: &mut String, line: &str, redeem: &str) -> Result<(), AllocError> {
+    let (name, word) = line.split_once(' ').unwrap_or((line, ""));
+    match name {
+        "code" | "redeem" if is_hex(word) => write!(text, "{name} .."),
+        "unlocking" => match before_push(word, redeem) {
+            Some(front) => write!(text, "{name} {front}.."),
+            None => text.push_str(line),
+        },
+        "locking" if is_hash_script(word) => write!(text, "{name} a914..87"),
+        "refused" => match line.split_once(" opcode ") {
+            Some((front, _index)) => write!(text, "{front} opcode .."),
+            None => text.push_str(line),
+        },
+        _ => text.push_str(line),
+    }
+}
+
+/// Whether these are bytes of a script that wants the script with some hash.
+fn is_hash_script(word: &str) -> bool {
+    is_hex(word) && word.len() == 46 && word.starts_with("a914") && word.ends_with("87")
+}
+
+/// The redeem script that the first line shows.
+fn redeem_of(written: &str) -> &str {
+    let Some(tail) = written.strip_prefix("redeem ") else {
+        return "";
+    };
+    match tail.split_once('\n') {
+        Some((redeem, _after)) => redeem,
+        None => "",
+    }
+}
+
+/// Prints what was written to a sink, where anything was.
+pub fn show_written(text: &mut String, name: &str, written: &[u8]) -> Result<()> {
+    if written.is_empty() {
+        return Ok(());
+    }
+    let written = str::from_utf8(written)?;
+    let redeem = redeem_of(written);
+    write!(text, " {name} ")?;
+    for line in written.split_inclusive('\n') {
+        match line.strip_suffix('\n') {
+            Some(line) => {
+                show_line(text, line, redeem)?;
+                text.push_str("~")?;
+            }
+            None => show_line(text, line, redeem)?,
+        }
+    }
+    Ok(())
+}
