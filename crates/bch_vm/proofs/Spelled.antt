@@ -1,12 +1,12 @@
 -- What is read of spelled code.
-use Rattle.std.proofs.Common.{◌≡◌, ℕ, ◌+◌, ◌-◌, ◌≤◌, Bool, true, false, ◌&&◌, ◌||◌, leb, ltb, eqb, cond, List, [], ◌∷◌, ◌++◌, length, map, refl, sym, ap, ◌∙◌, arith, length-append, append-nil}
+use Rattle.std.proofs.Common.{◌≡◌, ℕ, ◌+◌, ◌-◌, ◌≤◌, Bool, true, false, ◌&&◌, leb, ltb, eqb, cond, List, [], ◌∷◌, ◌++◌, length, map, Option, Some, None, refl, sym, ap, ◌∙◌, arith, length-append, append-nil}
 use Rattle.std.specs.List.{AllByRecursion}
 use Rattle.std.proofs.lemmas.Bool.{and_parts, false≢true}
 use Rattle.std.proofs.lemmas.Bool.Decides.{nat_tests}
 use Rattle.script_codec.specs.declared.instr.Instr.{Instr}
 use Rattle.script_codec.specs.declared.instr.Instr.TheVariants.{Push, Do}
-use Rattle.script_codec.specs.Spelling.{is_instruction, are_instructions, spelling, spellings}
-use Rattle.script_codec.specs.Reading.{Raw, Piece, Whole, reading, instruction, is_minimal, size_of, bytes_in_script, spelled, push}
+use Rattle.script_codec.specs.Spelling.{is_instruction, are_instructions, own_opcode, spelling, spellings}
+use Rattle.script_codec.specs.Reading.{Raw, Piece, Whole, reading, instruction, is_minimal, size_of, bytes_after, bytes_in_script, spelled, push}
 
 -- what reading and spelling are to one another, as their crate's laws say
 pub record Laws : Type 0 where
@@ -50,13 +50,11 @@ code_fit laws (instr ∷ code) are size =
 -- ---- pushes of elements
 
 pushed-le : (e : List ℕ) → length (bytes_in_script e) ≤ length e
-pushed-le [] = omega arith
-pushed-le (byte ∷ []) = by_test ((leb 1 byte && leb byte 16) || eqb byte 0x81)
+pushed-le e = by_own (own_opcode e)
   where
-    by_test : (t : Bool) → length (cond t [] (byte ∷ [])) ≤ length (byte ∷ [])
-    by_test true = omega arith
-    by_test false = omega arith
-pushed-le (a ∷ b ∷ more) = omega arith
+    by_own : (o : Option ℕ) → length (bytes_after o e) ≤ length e
+    by_own (Some opcode) = omega arith
+    by_own None = omega arith
 
 abbrev pub IsShort : List ℕ → Type 0
 IsShort e = length e ≤ 520

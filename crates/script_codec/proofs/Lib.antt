@@ -1,4 +1,6 @@
 pub mod Seams
 pub mod Sizes
+pub mod Own
+pub mod Table
 pub mod Round
 pub mod Only

@@ -1,14 +1,15 @@
 -- Bytes whose pushes are all minimal are the spelling of what they are read as.
-use Rattle.std.proofs.Common.{◌≡◌, ℕ, zero, suc, ◌+◌, ◌-◌, ◌/◌, ◌%◌, ◌≤◌, ◌<◌, Bool, true, false, ◌&&◌, leb, eqb, cond, List, [], ◌∷◌, ◌++◌, length, take, drop, map, refl, sym, ap, ◌∙◌, arith, subst, Some, ◌⊎◌, inl, inr}
+use Rattle.std.proofs.Common.{◌≡◌, ℕ, zero, suc, ◌+◌, ◌-◌, ◌/◌, ◌%◌, ◌≤◌, ◌<◌, Bool, true, false, ◌&&◌, leb, eqb, cond, List, [], ◌∷◌, ◌++◌, length, take, drop, map, refl, sym, ap, ◌∙◌, arith, subst, Option, Some, None, ◌⊎◌, inl, inr}
 use Rattle.std.proofs.lemmas.List.{length-take, length-drop, take-append-drop}
-use Rattle.std.proofs.lemmas.Bool.{and_parts, cases_lt, cases_eq, cond-true, leb-true}
+use Rattle.std.proofs.lemmas.Bool.{and_parts, cases_lt, cases_eq, leb-true}
 use Rattle.std.proofs.lemmas.Bool.Decides.{nat_tests}
 use Rattle.std.specs.List.{list_all}
 use Rattle.cash_base.specs.Number.{IsBytes}
 use Rattle.script_codec.specs.declared.instr.Instr.{Instr}
-use Rattle.script_codec.specs.Spelling.{short_push, minimal_push, spelling, spellings}
+use Rattle.script_codec.specs.Spelling.{own_opcode, push_by, minimal_push, spelling, spellings}
 use Rattle.script_codec.specs.Reading.{Piece, Whole, CutOff, length_size, pushed_size, piece_of, size_after, reading, first_byte, instruction, is_minimal, meaning, is_minimal_piece}
 use Rattle.script_codec.proofs.Seams.{reading_cons, reading_nil}
+use Rattle.script_codec.proofs.Own.{Owns, owned}
 use Rattle.script_codec.proofs.Round.{raw_of, low_meaning, small_meaning, do_meaning}
 
 -- an opcode in front of its bytes, and what it pushes of them
@@ -52,28 +53,27 @@ two_lengths (f ∷ g ∷ more) pushed bytes p =
 
 -- a push by the opcode of its element's minimal push is that push
 push_again : (opcode : ℕ) (after pushed : List ℕ) → IsBytes after → opcode ≤ 0x4e → Pushes opcode after pushed → opcode ≡ first_byte (minimal_push pushed) → bytes_of opcode after ≡ minimal_push pushed
-push_again opcode after [] bytes low p is = subst (λ op. Pushes op after [] → bytes_of op after ≡ 0 ∷ []) (sym is) (direct 0 after [] (omega arith)) p
-push_again opcode after (byte ∷ []) bytes low p is = by_tests (leb 1 byte && leb byte 16) (eqb byte 0x81) is
+push_again opcode after pushed bytes low p is = by_own (own_opcode pushed) refl is
   where
-    by_tests : (small minus : Bool) → opcode ≡ first_byte (cond small ((0x50 + byte) ∷ []) (cond minus (0x4f ∷ []) (1 ∷ byte ∷ []))) → bytes_of opcode after ≡ cond small ((0x50 + byte) ∷ []) (cond minus (0x4f ∷ []) (1 ∷ byte ∷ []))
-    by_tests true minus e = absurd (omega (arith, low, e))
-    by_tests false true e = absurd (omega (arith, low, e))
-    by_tests false false e = subst (λ op. Pushes op after (byte ∷ []) → bytes_of op after ≡ 1 ∷ byte ∷ []) (sym e) (direct 1 after (byte ∷ []) (omega arith)) p
-push_again opcode after (a ∷ b ∷ more) bytes low p is = by_tests (leb n 75) (leb n 255) refl is
-  where
-    e : List ℕ
-    e = a ∷ b ∷ more
-
     n : ℕ
-    n = length e
+    n = length pushed
 
     prefix : Bool → Bool → List ℕ
     prefix short middle = cond short (n ∷ []) (cond middle (0x4c ∷ n ∷ []) (0x4d ∷ (n % 256) ∷ (n / 256) ∷ []))
 
-    by_tests : (short middle : Bool) → leb n 75 ≡ short → opcode ≡ first_byte (prefix short middle ++ e) → bytes_of opcode after ≡ prefix short middle ++ e
-    by_tests true middle test o = subst (λ op. Pushes op after e → bytes_of op after ≡ n ∷ e) (sym o) (direct n after e (grind (arith, nat_tests, test))) p
-    by_tests false true test o = subst (λ op. Pushes op after e → bytes_of op after ≡ 0x4c ∷ n ∷ e) (sym o) (one_length after e) p
-    by_tests false false test o = subst (λ op. Pushes op after e → bytes_of op after ≡ 0x4d ∷ (n % 256) ∷ (n / 256) ∷ e) (sym o) (two_lengths after e bytes) p
+    by_tests : (short middle : Bool) → leb n 75 ≡ short → opcode ≡ first_byte (prefix short middle ++ pushed) → bytes_of opcode after ≡ prefix short middle ++ pushed
+    by_tests true middle test o = subst (λ op. Pushes op after pushed → bytes_of op after ≡ n ∷ pushed) (sym o) (direct n after pushed (grind (arith, nat_tests, test))) p
+    by_tests false true test o = subst (λ op. Pushes op after pushed → bytes_of op after ≡ 0x4c ∷ n ∷ pushed) (sym o) (one_length after pushed) p
+    by_tests false false test o = subst (λ op. Pushes op after pushed → bytes_of op after ≡ 0x4d ∷ (n % 256) ∷ (n / 256) ∷ pushed) (sym o) (two_lengths after pushed bytes) p
+
+    by_case : (o : ℕ) → opcode ≡ o → Owns pushed o → bytes_of opcode after ≡ o ∷ []
+    by_case o same (inl empty) = direct opcode after pushed (omega (arith, same, empty.0)) p ∙ ap (λ (more : List ℕ). opcode ∷ more) empty.1 ∙ ap (λ (op : ℕ). op ∷ []) same
+    by_case o same (inr (inl minus)) = absurd (omega (arith, low, same, minus.0))
+    by_case o same (inr (inr small)) = absurd (omega (arith, low, same, small.0))
+
+    by_own : (o : Option ℕ) → own_opcode pushed ≡ o → opcode ≡ first_byte (push_by o pushed) → bytes_of opcode after ≡ push_by o pushed
+    by_own (Some o) own same = by_case o same (owned pushed o own)
+    by_own None own same = by_tests (leb n 75) (leb n 255) refl same
 
 -- ---- an opcode above 4e has no bytes of its own
 
@@ -84,10 +84,10 @@ no_bytes opcode after above =
     let size : size_after opcode after ≡ 0 = omega (arith, none, empty) in
     ap (λ k. opcode ∷ take k after) size
 
-small_push : (byte : ℕ) → 1 ≤ byte → byte ≤ 16 → short_push byte ≡ (0x50 + byte) ∷ []
+small_push : (byte : ℕ) → 1 ≤ byte → byte ≤ 16 → minimal_push (byte ∷ []) ≡ (0x50 + byte) ∷ []
 small_push byte some few =
     let test : (leb 1 byte && leb byte 16) ≡ true = grind (arith, nat_tests) in
-    cond-true _ _ _ test
+    ap (λ (t : Bool). push_by (cond t (Some (0x50 + byte)) (cond (eqb byte 0x81) (Some 0x4f) None)) (byte ∷ [])) test
 
 -- ---- an instruction whose opcode is that of its minimal spelling is that spelling
 instr_again : (opcode : ℕ) (after pushed : List ℕ) → IsBytes after → Pushes opcode after pushed → is_minimal (raw_of opcode pushed) ≡ true → bytes_of opcode after ≡ spelling (instruction (raw_of opcode pushed))

@@ -1,5 +1,5 @@
 -- Reading and spelling stand for one another.
-use Rattle.std.proofs.Common.{◌≡◌, ℕ, ◌+◌, ◌-◌, ◌/◌, ◌%◌, ◌≤◌, ◌<◌, Bool, true, false, ◌&&◌, ◌||◌, leb, ltb, eqb, cond, List, [], ◌∷◌, ◌++◌, length, take, drop, map, refl, sym, ap, ◌∙◌, arith, Some, length-append, append_assoc, append-nil, ◌⊎◌, inl, inr}
+use Rattle.std.proofs.Common.{◌≡◌, ℕ, ◌+◌, ◌-◌, ◌/◌, ◌%◌, ◌≤◌, ◌<◌, Bool, true, false, ◌&&◌, leb, ltb, eqb, cond, List, [], ◌∷◌, ◌++◌, length, take, drop, map, refl, sym, ap, ◌∙◌, arith, subst, Option, Some, None, length-append, append_assoc, append-nil, ◌⊎◌, inl, inr}
 use Rattle.cash_base.specs.Push.{push_prefix}
 use Rattle.std.proofs.Math.Seq.{drop-nil, drop-append_seam, take-append_seam}
 use Rattle.std.proofs.lemmas.List.{take-append-le, drop-append-le, length-drop}
@@ -8,9 +8,10 @@ use Rattle.std.proofs.lemmas.Bool.Decides.{nat_tests}
 use Rattle.std.specs.List.{list_all}
 use Rattle.script_codec.specs.declared.instr.Instr.{Instr}
 use Rattle.script_codec.specs.declared.instr.Instr.TheVariants.{Push, Do}
-use Rattle.script_codec.specs.Spelling.{is_instruction, are_instructions, short_push, minimal_push, spelling, spellings}
-use Rattle.script_codec.specs.Reading.{Raw, Whole, little_endian, length_size, pushed_size, piece_of, size_after, size_of, reading, first_byte, instruction, is_minimal, meaning, is_minimal_piece, bytes_in_script, spelled, push}
+use Rattle.script_codec.specs.Spelling.{is_instruction, are_instructions, own_opcode, push_by, minimal_push, spelling, spellings}
+use Rattle.script_codec.specs.Reading.{Raw, Whole, little_endian, length_size, pushed_size, piece_of, size_after, size_of, reading, first_byte, instruction, is_minimal, meaning, is_minimal_piece, bytes_after, bytes_in_script, spelled, push}
 use Rattle.script_codec.proofs.Seams.{reading_cons, reading_nil}
+use Rattle.script_codec.proofs.Own.{Owns, owned}
 
 -- ---- an instruction in front of other bytes
 
@@ -43,16 +44,13 @@ opcode_alone opcode above = (grind (arith, nat_tests), grind (arith, nat_tests))
 above_read : (opcode : ℕ) (rest : List ℕ) → 0x4e < opcode → reading (opcode ∷ rest) ≡ Whole (raw_of opcode []) ∷ reading rest
 above_read opcode rest above = let sizes = opcode_alone opcode above in alone_read opcode rest sizes.0 sizes.1
 
-short_read : (byte : ℕ) (rest : List ℕ) → reading (short_push byte ++ rest) ≡ Whole (raw_of (first_byte (short_push byte)) (bytes_in_script (byte ∷ []))) ∷ reading rest
-short_read byte rest = by_tests (leb 1 byte && leb byte 16) (eqb byte 0x81) refl
+own_alone : (e : List ℕ) (opcode : ℕ) → own_opcode e ≡ Some opcode → (length_size opcode ≡ 0) × (pushed_size opcode [] ≡ 0)
+own_alone e opcode is = by_case (owned e opcode is)
   where
-    pushes : Bool → Bool → List ℕ
-    pushes small minus = cond small ((0x50 + byte) ∷ []) (cond minus (0x4f ∷ []) (1 ∷ byte ∷ []))
-
-    by_tests : (small minus : Bool) → (leb 1 byte && leb byte 16) ≡ small → reading (pushes small minus ++ rest) ≡ Whole (raw_of (first_byte (pushes small minus)) (cond (small || minus) [] (byte ∷ []))) ∷ reading rest
-    by_tests true minus test = above_read (0x50 + byte) rest (grind (arith, nat_tests, test))
-    by_tests false true test = above_read 0x4f rest (omega arith)
-    by_tests false false test = whole_read 1 (byte ∷ []) rest (omega arith) refl
+    by_case : Owns e opcode → (length_size opcode ≡ 0) × (pushed_size opcode [] ≡ 0)
+    by_case (inl empty) = subst (λ (n : ℕ). (length_size n ≡ 0) × (pushed_size n [] ≡ 0)) (sym empty.0) (refl, refl)
+    by_case (inr (inl minus)) = opcode_alone opcode (omega (arith, minus.0))
+    by_case (inr (inr small)) = opcode_alone opcode (omega (arith, small.0))
 
 direct_sizes : (n : ℕ) (e : List ℕ) → n ≤ 75 → (length_size n ≡ 0) × (pushed_size n e ≡ n)
 direct_sizes n e short = (grind (arith, nat_tests), grind (arith, nat_tests))
@@ -72,9 +70,11 @@ long_read n e rest is = by_tests (leb n 75) (leb n 255) refl
     by_tests false false test = whole_read 0x4d ((n % 256) ∷ (n / 256) ∷ e) rest (omega arith) (omega (arith, is))
 
 push_read : (e rest : List ℕ) → reading (minimal_push e ++ rest) ≡ Whole (raw_of (first_byte (minimal_push e)) (bytes_in_script e)) ∷ reading rest
-push_read [] rest = alone_read 0 rest refl refl
-push_read (byte ∷ []) rest = short_read byte rest
-push_read (a ∷ b ∷ more) rest = long_read (length (a ∷ b ∷ more)) (a ∷ b ∷ more) rest refl
+push_read e rest = by_own (own_opcode e) refl
+  where
+    by_own : (o : Option ℕ) → own_opcode e ≡ o → reading (push_by o e ++ rest) ≡ Whole (raw_of (first_byte (push_by o e)) (bytes_after o e)) ∷ reading rest
+    by_own (Some opcode) is = let sizes = own_alone e opcode is in alone_read opcode rest sizes.0 sizes.1
+    by_own None is = long_read (length e) e rest refl
 
 -- the minimal spelling of an instruction is read as it
 instr_read : (instr : Instr) (rest : List ℕ) → is_instruction instr ≡ true → reading (spelling instr ++ rest) ≡ Whole (spelled instr) ∷ reading rest
@@ -100,17 +100,14 @@ pub do_meaning : (opcode : ℕ) (pushed : List ℕ) → (0x60 < opcode) ⊎ (opc
 do_meaning opcode pushed (inl above) = by_range opcode pushed false false false (grind (arith, nat_tests)) (grind (arith, nat_tests)) (grind (arith, nat_tests))
 do_meaning opcode pushed (inr is) = by_range opcode pushed false false false (grind (arith, nat_tests)) (grind (arith, nat_tests)) (grind (arith, nat_tests))
 
-short_meaning : (byte : ℕ) → instruction (raw_of (first_byte (short_push byte)) (bytes_in_script (byte ∷ []))) ≡ push (byte ∷ [])
-short_meaning byte = by_tests (leb 1 byte && leb byte 16) (eqb byte 0x81) refl refl
+-- an element's own opcode stands for the push of the element
+pub own_meaning : (e : List ℕ) (opcode : ℕ) → own_opcode e ≡ Some opcode → instruction (raw_of opcode []) ≡ push e
+own_meaning e opcode is = by_case (owned e opcode is)
   where
-    by_tests : (small minus : Bool) → (leb 1 byte && leb byte 16) ≡ small → eqb byte 0x81 ≡ minus → instruction (raw_of (first_byte (cond small ((0x50 + byte) ∷ []) (cond minus (0x4f ∷ []) (1 ∷ byte ∷ [])))) (cond (small || minus) [] (byte ∷ []))) ≡ push (byte ∷ [])
-    by_tests true minus test other =
-        let same : 0x50 + byte - 0x50 ≡ byte = omega arith in
-        small_meaning (0x50 + byte) [] (grind (arith, nat_tests, test)) (grind (arith, nat_tests, test)) ∙ ap (λ b. push (b ∷ [])) same
-    by_tests false true test other =
-        let is : byte ≡ 0x81 = grind (arith, nat_tests, other) in
-        ap (λ b. push (b ∷ [])) (sym is)
-    by_tests false false test other = refl
+    by_case : Owns e opcode → instruction (raw_of opcode []) ≡ push e
+    by_case (inl empty) = subst (λ (n : ℕ). instruction (raw_of n []) ≡ push e) (sym empty.0) (ap push (sym empty.1))
+    by_case (inr (inl minus)) = subst (λ (n : ℕ). instruction (raw_of n []) ≡ push e) (sym minus.0) (ap push (sym minus.1))
+    by_case (inr (inr small)) = small_meaning opcode [] small.0 small.1 ∙ ap push (sym small.2)
 
 long_meaning : (n : ℕ) (e : List ℕ) → instruction (raw_of (first_byte (push_prefix n ++ e)) e) ≡ push e
 long_meaning n e = by_tests (leb n 75) (leb n 255) refl
@@ -121,9 +118,11 @@ long_meaning n e = by_tests (leb n 75) (leb n 255) refl
     by_tests false false test = refl
 
 push_meaning : (e : List ℕ) → instruction (raw_of (first_byte (minimal_push e)) (bytes_in_script e)) ≡ push e
-push_meaning [] = refl
-push_meaning (byte ∷ []) = short_meaning byte
-push_meaning (a ∷ b ∷ more) = long_meaning (length (a ∷ b ∷ more)) (a ∷ b ∷ more)
+push_meaning e = by_own (own_opcode e) refl
+  where
+    by_own : (o : Option ℕ) → own_opcode e ≡ o → instruction (raw_of (first_byte (push_by o e)) (bytes_after o e)) ≡ push e
+    by_own (Some opcode) is = own_meaning e opcode is
+    by_own None is = long_meaning (length e) e
 
 pub instr_meaning : (instr : Instr) → is_instruction instr ≡ true → instruction (spelled instr) ≡ instr
 instr_meaning (Push e) is = push_meaning e.items
@@ -144,19 +143,6 @@ instr_minimal instr is =
 
 -- ---- what is read has as many bytes as the spelling
 
-short_size : (byte : ℕ) → size_of (raw_of (first_byte (short_push byte)) (bytes_in_script (byte ∷ []))) ≡ length (short_push byte)
-short_size byte = by_tests (leb 1 byte && leb byte 16) (eqb byte 0x81) refl
-  where
-    pushes : Bool → Bool → List ℕ
-    pushes small minus = cond small ((0x50 + byte) ∷ []) (cond minus (0x4f ∷ []) (1 ∷ byte ∷ []))
-
-    by_tests : (small minus : Bool) → (leb 1 byte && leb byte 16) ≡ small → size_of (raw_of (first_byte (pushes small minus)) (cond (small || minus) [] (byte ∷ []))) ≡ length (pushes small minus)
-    by_tests true minus test =
-        let sizes = opcode_alone (0x50 + byte) (grind (arith, nat_tests, test)) in
-        omega (arith, sizes.0)
-    by_tests false true test = refl
-    by_tests false false test = refl
-
 long_size : (n : ℕ) (e : List ℕ) → length e ≡ n → size_of (raw_of (first_byte (push_prefix n ++ e)) e) ≡ length (push_prefix n ++ e)
 long_size n e is = by_tests (leb n 75) (leb n 255) refl
   where
@@ -171,9 +157,11 @@ long_size n e is = by_tests (leb n 75) (leb n 255) refl
     by_tests false false test = omega arith
 
 push_size : (e : List ℕ) → size_of (raw_of (first_byte (minimal_push e)) (bytes_in_script e)) ≡ length (minimal_push e)
-push_size [] = refl
-push_size (byte ∷ []) = short_size byte
-push_size (a ∷ b ∷ more) = long_size (length (a ∷ b ∷ more)) (a ∷ b ∷ more) refl
+push_size e = by_own (own_opcode e) refl
+  where
+    by_own : (o : Option ℕ) → own_opcode e ≡ o → size_of (raw_of (first_byte (push_by o e)) (bytes_after o e)) ≡ length (push_by o e)
+    by_own (Some opcode) is = let sizes = own_alone e opcode is in omega (arith, sizes.0)
+    by_own None is = long_size (length e) e refl
 
 pub instr_size : (instr : Instr) → is_instruction instr ≡ true → size_of (spelled instr) ≡ length (spelling instr)
 instr_size (Push e) is = push_size e.items

@@ -1,10 +1,10 @@
 -- How large the numbers in a script are, and how long its pushes.
-use Rattle.std.proofs.Common.{ℕ, ◌+◌, ◌/◌, ◌%◌, ◌^◌, ◌<◌, ◌≤◌, Bool, true, false, cond, List, [], ◌∷◌, length, arith, lit<}
+use Rattle.std.proofs.Common.{ℕ, ◌+◌, ◌/◌, ◌%◌, ◌^◌, ◌<◌, ◌≤◌, Bool, true, false, cond, List, [], ◌∷◌, length, Option, Some, None, arith, lit<}
 use Rattle.cash_base.specs.Push.{push_prefix}
-use Rattle.std.specs.Prelude.{nat_le, ◌==◌, ◌&&◌}
+use Rattle.std.specs.Prelude.{nat_le}
 use Rattle.std.proofs.Math.Nat.{pow-le-pow_right}
 use Rattle.std.proofs.lemmas.List.{length-append}
-use Rattle.script_codec.specs.Spelling.{minimal_push}
+use Rattle.script_codec.specs.Spelling.{own_opcode, push_by, minimal_push}
 
 -- a number of three bytes
 pub below_three : (m k : ℕ) → k ≤ 3 → m < 256 ^ k → m < 2 ^ 24
@@ -25,13 +25,11 @@ prefix_size n =
 
 -- at most three bytes stand in front of what is pushed
 pub push_size : (e : List ℕ) → length (minimal_push e) ≤ length e + 3
-push_size [] = omega arith
-push_size (b ∷ []) =
-    let one : List ℕ = (0x50 + b) ∷ [] in
-    let negative : List ℕ = 0x4f ∷ [] in
-    let two : List ℕ = 1 ∷ b ∷ [] in
-    shorter (nat_le 1 b && nat_le b 16) one (cond (b == 0x81) negative two) 4 (omega arith) (shorter (b == 0x81) negative two 4 (omega arith) (omega arith))
-push_size (a ∷ b ∷ more) =
-    let front = prefix_size (length (a ∷ b ∷ more)) in
-    let whole = length-append (push_prefix (length (a ∷ b ∷ more))) (a ∷ b ∷ more) in
-    omega (arith, front, whole)
+push_size e = by_own (own_opcode e)
+  where
+    by_own : (o : Option ℕ) → length (push_by o e) ≤ length e + 3
+    by_own (Some opcode) = omega arith
+    by_own None =
+        let front = prefix_size (length e) in
+        let whole = length-append (push_prefix (length e)) e in
+        omega (arith, front, whole)

@@ -1,8 +1,8 @@
 -- What the bytes of a script spell, as the Bitcoin Cash specification has it.
-use Rattle.std.specs.Prelude.{ℕ, zero, suc, ◌+◌, ◌-◌, ◌*◌, Bool, false, ◌==◌, ◌&&◌, ◌||◌, nat_lt, nat_le, if◌then◌else◌, List, [], ◌∷◌, length, take, drop, Option, Some, None}
+use Rattle.std.specs.Prelude.{ℕ, zero, suc, ◌+◌, ◌-◌, ◌*◌, Bool, false, ◌==◌, ◌&&◌, nat_lt, nat_le, if◌then◌else◌, List, [], ◌∷◌, length, take, drop, Option, Some, None}
 use Rattle.script_codec.specs.declared.instr.Instr.{Instr}
 use Rattle.script_codec.specs.declared.instr.Instr.TheVariants.{Push, Do}
-use Rattle.script_codec.specs.Spelling.{spelling}
+use Rattle.script_codec.specs.Spelling.{own_opcode, spelling}
 
 -- ---- the bytes of one instruction
 
@@ -92,10 +92,14 @@ is_minimal_piece CutOff = false
 
 -- ---- how the minimal spelling of an instruction is read
 
--- the bytes of its element that stand in the script: none where it has an opcode of its own
+-- none where its opcode says it all
+abbrev pub bytes_after : Option ℕ → List ℕ → List ℕ
+bytes_after (Some opcode) e = []
+bytes_after None e = e
+
+-- the bytes of an element that stand in the script: none where it has an opcode of its own
 abbrev pub bytes_in_script : List ℕ → List ℕ
-bytes_in_script (byte ∷ []) = if (nat_le 1 byte && nat_le byte 16) || byte == 0x81 then [] else byte ∷ []
-bytes_in_script e = e
+bytes_in_script e = bytes_after (own_opcode e) e
 
 abbrev pub spelled : Instr → Raw
 spelled (Push e) = record { opcode = first_byte (spelling (Push e)); pushed = bytes_in_script e.items }

@@ -1,10 +1,12 @@
-//! Spelling and reading stand for one another.
+//! Spelling and reading stand for one another, and so do opcodes and their names.
 
-ghost use Rattle.std.specs.Prelude.{◌≡◌, ℕ, IsTrue, List, [], ◌∷◌, ◌++◌, length, map, drop, Some};
-ghost use Rattle.std.specs.List.{list_all};
+ghost use Rattle.std.specs.Prelude.{◌≡◌, ℕ, IsTrue, List, [], ◌∷◌, ◌++◌, length, map, drop, Some, not};
+ghost use Rattle.std.specs.List.{list_all, filter, range_with_len};
 ghost use Rattle.cash_base.specs.Number.{IsBytes};
 ghost use Rattle.script_codec.specs.declared.instr.Instr.{Instr};
 ghost use Rattle.script_codec.specs.Spelling.{is_instruction, are_instructions, spelling, spellings};
+ghost use Rattle.script_codec.specs.Words.{is_blank};
+ghost use Rattle.script_codec.specs.Names.{name_of, opcode_named, has_name};
 ghost use Rattle.script_codec.specs.Reading.{reading, piece_of, size_after, size_of, Whole, spelled, instruction, is_minimal, meaning, is_minimal_piece};
 
 /// Reading what was encoded gives the same instructions.
@@ -43,4 +45,18 @@ pub fn meaning_of_spelled()
     ensures { (instr : Instr) → IsTrue (is_instruction instr)
         → (instruction (spelled instr) ≡ instr) × IsTrue (is_minimal (spelled instr))
         × (size_of (spelled instr) ≡ length (spelling instr)) }
+{}
+
+/// Of all bytes 00, 4f, those from 51 to bc and those from c0 to cd (hexadecimal) have a name.
+pub fn bytes_with_a_name()
+    ensures { filter has_name (range_with_len 0 256)
+        ≡ 0x00 ∷ 0x4f ∷ (range_with_len 0x51 0x6c ++ range_with_len 0xc0 0x0e) }
+{}
+
+/// An opcode has a name exactly where the name has that opcode, and a name has no blank in it.
+pub fn one_opcode_a_name()
+    ensures opcode { (opcode : ℕ) (name : List ℕ) → name_of opcode ≡ Some name → opcode_named name ≡ Some opcode }
+    ensures name { (name : List ℕ) (opcode : ℕ) → opcode_named name ≡ Some opcode → name_of opcode ≡ Some name }
+    ensures unbroken { (opcode : ℕ) (name : List ℕ) → name_of opcode ≡ Some name
+        → IsTrue (list_all (λ byte. not (is_blank byte)) name) }
 {}

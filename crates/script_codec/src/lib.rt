@@ -4,12 +4,14 @@
 pub mod counting;
 pub mod instr;
 pub mod laws;
+pub mod names;
 pub mod reading;
 pub mod spans;
 pub mod spelling;
 
 pub use counting::{counted, weight};
 pub use instr::{Instr, Opcode};
+pub use names::{has_name, opcode_name, opcode_named};
 pub use reading::{CodecFault, RawInstr, next_instr};
 pub use spans::{Mark, Marked, Spanned};
-pub use spelling::encode;
+pub use spelling::{encode, own_opcode};

@@ -8,6 +8,7 @@ ghost use Rattle.script_codec.specs.Spelling.{minimal_push};
 ghost use Rattle.script_codec.specs.Places.{instruction_at, placed, ReadsAs, LiesIn, raw_in};
 
 use crate::instr::{Instr, Opcode};
+use crate::spelling::own_opcode;
 use cash_base::element::copy_of;
 use std::error::Error;
 use std::fmt;
@@ -167,11 +168,9 @@ impl RawInstr {
 fn minimal_opcode(element: &[u8]) -> u8
     ensures { result ≡ first_byte (minimal_push element.now) }
 {
-    match element {
-        [] => 0,
-        [byte @ 1..=16] => 0x50 + *byte,
-        [0x81] => 0x4f,
-        _ => length_opcode(element.len()),
+    match own_opcode(element) {
+        Some(opcode) => opcode,
+        None => length_opcode(element.len()),
     }
 }
 

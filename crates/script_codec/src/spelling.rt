@@ -2,8 +2,8 @@
 
 ghost use Rattle.std.specs.Prelude.{◌≡◌, ◌≤◌, ◌++◌, length, IsTrue, IfOk, OnOk};
 ghost use Rattle.cash_base.specs.Push.{push_prefix};
+ghost use Rattle.script_codec.specs.Spelling;
 ghost use Rattle.script_codec.specs.Spelling.{are_instructions, minimal_push, spelling, spellings};
-ghost use Rattle.script_codec.specs.Spelling.{short_push};
 
 use crate::instr::Instr;
 use cash_base::Memory;
@@ -39,10 +39,9 @@ fn push(bytes: &mut Vec<u8>, element: &[u8]) -> Result<(), AllocError>
     requires { length element.now ≤ 520 }
     ensures { OnOk result (bytes.new.items ≡ bytes.old.items ++ minimal_push element.now) }
 {
-    match element {
-        [] => bytes.push(0)?,
-        [byte] => push_short(bytes, *byte)?,
-        _ => {
+    match own_opcode(element) {
+        Some(opcode) => bytes.push(opcode)?,
+        None => {
             push_length(bytes, element.len())?;
             bytes.extend_from_slice(element)?;
         }
@@ -50,15 +49,19 @@ fn push(bytes: &mut Vec<u8>, element: &[u8]) -> Result<(), AllocError>
     Ok(())
 }
 
-fn push_short(bytes: &mut Vec<u8>, byte: u8) -> Result<(), AllocError>
-    ensures { OnOk result (bytes.new.items ≡ bytes.old.items ++ short_push byte) }
+/// The opcode of an element that has one of its own: the empty element, the elements 01 to 10 (hexadecimal), and 81. It takes no
+/// memory.
+///
+/// Source: the Bitcoin Cash specification, on minimal pushes.
+pub fn own_opcode(element: &[u8]) -> Option<u8>
+    ensures { result ≡ Spelling.own_opcode element.now }
 {
-    match byte {
-        1..=16 => bytes.push(0x50 + byte)?,
-        0x81 => bytes.push(0x4f)?,
-        _ => bytes.extend_from_slice(&[1, byte])?,
+    match element {
+        [] => Some(0),
+        [byte @ 1..=16] => Some(0x50 + *byte),
+        [0x81] => Some(0x4f),
+        _ => None,
     }
-    Ok(())
 }
 
 /// Adds what stands before so many bytes.
