@@ -1,9 +1,11 @@
 -- The table of names, gone over by the checker.
-use Rattle.std.proofs.Common.{◌≡◌, ℕ, ◌==◌, Bool, true, false, not, ◌&&◌, eqb, cond, List, [], ◌∷◌, ◌++◌, Option, Some, None, refl, sym, ap, subst, ◌∙◌}
+use Rattle.std.proofs.Common.{◌≡◌, ℕ, zero, suc, ◌+◌, ◌-◌, ◌<◌, ◌≤◌, ◌==◌, Bool, true, false, not, ◌&&◌, eqb, cond, List, [], ◌∷◌, ◌++◌, Option, Some, None, refl, sym, ap, subst, ◌∙◌, arith, ◌⊎◌, inl, inr}
 use Rattle.std.specs.List.{list_all, filter, range_with_len}
 use Rattle.std.specs.Str.{bytes_eq}
-use Rattle.std.proofs.lemmas.Bool.{and_parts, eqb-true}
+use Rattle.std.proofs.lemmas.Bool.{and_parts, eqb-true, cases_lt}
 use Rattle.std.proofs.lemmas.Slice.Eq.{bytes_eq-Decides}
+use Rattle.script_codec.specs.Spelling.{own_opcode}
+use Rattle.script_codec.proofs.Own.{Owns, owned}
 use Rattle.script_codec.specs.Words.{is_blank}
 use Rattle.script_codec.specs.Names.{named_opcodes, name_in, opcode_in, name_of, opcode_named, has_name}
 
@@ -89,3 +91,47 @@ names_unbroken = refl
 
 pub name_unbroken : (opcode : ℕ) (name : List ℕ) → name_of opcode ≡ Some name → list_all (λ byte. not (is_blank byte)) name ≡ true
 name_unbroken opcode name found = found_by_opcode (λ row. list_all (λ byte. not (is_blank byte)) row.1) named_opcodes opcode name names_unbroken found
+
+-- ---- an element's own opcode has a name
+
+abbrev all_below : (ℕ → Bool) → ℕ → Bool
+all_below test zero = true
+all_below test (suc n) = test n && all_below test n
+
+below : (test : ℕ → Bool) (n k : ℕ) → all_below test n ≡ true → k < n → test k ≡ true
+below test zero k all less = absurd (omega arith)
+below test (suc n) k all less = by_case (below test n k parts.1) (cases_lt k n)
+  where
+    parts : (test n ≡ true) × (all_below test n ≡ true)
+    parts = and_parts (test n) (all_below test n) all
+
+    by_case : (k < n → test k ≡ true) → (k < n) ⊎ (n ≤ k) → test k ≡ true
+    by_case lower (inl under) = lower under
+    by_case lower (inr top) =
+        let same : n ≡ k = omega arith in
+        subst (λ (m : ℕ). test m ≡ true) same parts.0
+
+small_named : all_below (λ k. has_name (0x51 + k)) 16 ≡ true
+unfolding named_opcodes
+small_named = refl
+
+empty_named : has_name 0 ≡ true
+unfolding named_opcodes
+empty_named = refl
+
+minus_named : has_name 0x4f ≡ true
+unfolding named_opcodes
+minus_named = refl
+
+pub own_named : (e : List ℕ) (opcode : ℕ) → own_opcode e ≡ Some opcode → has_name opcode ≡ true
+own_named e opcode own = by_case (owned e opcode own)
+  where
+    by_case : Owns e opcode → has_name opcode ≡ true
+    by_case (inl empty) = subst (λ (o : ℕ). has_name o ≡ true) (sym empty.0) empty_named
+    by_case (inr (inl minus)) = subst (λ (o : ℕ). has_name o ≡ true) (sym minus.0) minus_named
+    by_case (inr (inr small)) =
+        let above : 0x50 < opcode = small.0 in
+        let few : opcode ≤ 0x60 = small.1 in
+        let is : 0x51 + (opcode - 0x51) ≡ opcode = omega arith in
+        let less : opcode - 0x51 < 16 = omega arith in
+        subst (λ (o : ℕ). has_name o ≡ true) is (below (λ k. has_name (0x51 + k)) 16 (opcode - 0x51) small_named less)

@@ -4,10 +4,10 @@ ghost use Rattle.std.specs.Prelude.{◌≡◌, ℕ, IsTrue, List, [], ◌∷◌,
 ghost use Rattle.std.specs.List.{list_all, filter, range_with_len};
 ghost use Rattle.cash_base.specs.Number.{IsBytes};
 ghost use Rattle.script_codec.specs.declared.instr.Instr.{Instr};
-ghost use Rattle.script_codec.specs.Spelling.{is_instruction, are_instructions, spelling, spellings};
+ghost use Rattle.script_codec.specs.Spelling.{is_instruction, are_instructions, own_opcode, spelling, spellings};
 ghost use Rattle.script_codec.specs.Words.{is_blank};
 ghost use Rattle.script_codec.specs.Names.{name_of, opcode_named, has_name};
-ghost use Rattle.script_codec.specs.Reading.{reading, piece_of, size_after, size_of, Whole, spelled, instruction, is_minimal, meaning, is_minimal_piece};
+ghost use Rattle.script_codec.specs.Reading.{reading, piece_of, size_after, size_of, Whole, spelled, instruction, is_minimal, meaning, is_minimal_piece, push};
 
 /// Reading what was encoded gives the same instructions.
 pub fn reading_of_encoded()
@@ -59,4 +59,10 @@ pub fn one_opcode_a_name()
     ensures name { (name : List ℕ) (opcode : ℕ) → opcode_named name ≡ Some opcode → name_of opcode ≡ Some name }
     ensures unbroken { (opcode : ℕ) (name : List ℕ) → name_of opcode ≡ Some name
         → IsTrue (list_all (λ byte. not (is_blank byte)) name) }
+{}
+
+/// An element's own opcode has a name, and stands for the push of that element.
+pub fn own_opcode_is_named()
+    ensures { (e : List ℕ) (opcode : ℕ) → own_opcode e ≡ Some opcode
+        → IsTrue (has_name opcode) × (instruction (record { opcode = opcode; pushed = [] }) ≡ push e) }
 {}

@@ -1,0 +1,4 @@
+pub mod Cut
+pub mod Turn
+pub mod Digits
+pub mod Again
