@@ -36,8 +36,10 @@ not_true true h = absurd (false≢true h)
 not_true false h = refl
 
 -- a byte that is no blank stands in front of the first piece
-pieces_byte : (byte : ℕ) (bytes : List ℕ) → not (is_blank byte) ≡ true → pieces (byte ∷ bytes) ≡ in_front byte (pieces bytes)
-pieces_byte byte bytes h = ap (λ (t : Bool). cond t ([] ∷ pieces bytes) (in_front byte (pieces bytes))) (not_true (is_blank byte) h)
+pieces_byte : (byte : ℕ) (bytes : List ℕ) → not (is_blank byte) ≡ true
+    → pieces (byte ∷ bytes) ≡ in_front byte (pieces bytes)
+pieces_byte byte bytes h =
+    ap (λ (t : Bool). cond t ([] ∷ pieces bytes) (in_front byte (pieces bytes))) (not_true (is_blank byte) h)
 
 pieces_front : (word rest : List ℕ) → unbroken word ≡ true → pieces (word ++ 0x20 ∷ rest) ≡ word ∷ pieces rest
 pieces_front [] rest whole = refl
@@ -100,7 +102,8 @@ digits_read (b ∷ more) is own =
     let word = digit_word (b ∷ more) is.bytes (omega arith) in
     let fits : nat_le (length (b ∷ more)) 520 ≡ true = le-leb _ _ is.size in
     let back : (number : ℕ) → word_instruction number (encode_lower (b ∷ more)) ≡ Ok (push (b ∷ more)) =
-    λ (number : ℕ). ap (λ (t : Bool). cond t (named number (opcode_named (drop 3 (encode_lower (b ∷ more))))) (pushed number (decode_of (encode_lower (b ∷ more))))) word.other
+    λ (number : ℕ). ap (λ (t : Bool). cond t (named number (opcode_named (drop 3 (encode_lower (b ∷ more)))))
+    (pushed number (decode_of (encode_lower (b ∷ more))))) word.other
     ∙ ap (pushed number) (decode_of-encode_lower (b ∷ more) (byte_at (b ∷ more) is.bytes))
     ∙ ap (λ (t : Bool). cond t (Ok (push (b ∷ more))) (Err (TooLong number))) fits in
     record { is_word = record { some = word.some; whole = word.whole }; back = back }

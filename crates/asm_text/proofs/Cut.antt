@@ -55,7 +55,8 @@ word_cut (byte ∷ bytes) at front found =
     ∙ ap (λ (ps : List (List ℕ)). not_empty (in_front byte ps)) is_cut.cut
     ∙ ap (λ (n : ℕ). (byte ∷ take is_cut.k bytes) ∷ words (drop n (byte ∷ bytes))) after_it in
     let inside : suc is_cut.k < length (byte ∷ bytes) = omega arith in
-    subst (λ (n : ℕ). (n < length (byte ∷ bytes)) × (words (byte ∷ bytes) ≡ take n (byte ∷ bytes) ∷ words (drop (n + 1) (byte ∷ bytes)))) is
+    subst (λ (n : ℕ). (n < length (byte ∷ bytes))
+    × (words (byte ∷ bytes) ≡ take n (byte ∷ bytes) ∷ words (drop (n + 1) (byte ∷ bytes)))) is
     (inside, whole)
 
 pub within_of : (bytes : List ℕ) (found : Option ℕ) → begins_blank bytes ≡ false → found ≡ position_from is_blank 0 bytes

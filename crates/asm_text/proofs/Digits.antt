@@ -20,12 +20,14 @@ byte_at (b ∷ e) bytes zero = bytes.0
 byte_at (b ∷ e) bytes (suc i) = byte_at e bytes.1 i
 
 -- what is no digit is none of the digits
-not_digit : (digit value other : ℕ) → hex_digit_value digit ≡ Some value → hex_digit_value other ≡ None → eqb digit other ≡ false
+not_digit : (digit value other : ℕ) → hex_digit_value digit ≡ Some value → hex_digit_value other ≡ None
+    → eqb digit other ≡ false
 not_digit digit value other is none = by_test (eqb digit other) refl
   where
     by_test : (t : Bool) → eqb digit other ≡ t → t ≡ false
     by_test true same =
-        let found : hex_digit_value other ≡ Some value = subst (λ (d : ℕ). hex_digit_value d ≡ Some value) (eqb-true digit other same) is in
+        let found : hex_digit_value other ≡ Some value =
+        subst (λ (d : ℕ). hex_digit_value d ≡ Some value) (eqb-true digit other same) is in
         absurd (cc (sym none ∙ found))
     by_test false differ = refl
 
@@ -70,7 +72,8 @@ digit_word (b ∷ e) bytes some =
     let fits : b < 256 = bytes.0 in
     let high : b / 16 < 16 = omega arith in
     let letter : eqb 79 (slice_index lower_digits (b / 16)) ≡ false =
-    flipped (slice_index lower_digits (b / 16)) 79 (not_digit (slice_index lower_digits (b / 16)) (b / 16) 79 (IsDigits-lower_digits (b / 16) high) refl) in
+    flipped (slice_index lower_digits (b / 16)) 79
+    (not_digit (slice_index lower_digits (b / 16)) (b / 16) 79 (IsDigits-lower_digits (b / 16) high) refl) in
     record {
       some = omega arith;
       whole = digits_unbroken (b ∷ e) bytes;

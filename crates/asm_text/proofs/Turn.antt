@@ -19,8 +19,8 @@ abbrev with_more : ℕ → List (List ℕ) → Result Instr AsmFault → Result 
 with_more number more read = read >>= λ instr. code_from (number + 1) more >>= λ code. Ok (instr ∷ code)
 
 -- a word is read, and then the others
-pub word_read : (front : List Instr) (number : ℕ) (all : List (List ℕ)) (word : List ℕ) (more : List (List ℕ)) (instr : Instr)
-    → all ≡ word ∷ more → word_instruction number word ≡ Ok instr
+pub word_read : (front : List Instr) (number : ℕ) (all : List (List ℕ)) (word : List ℕ) (more : List (List ℕ))
+    (instr : Instr) → all ≡ word ∷ more → word_instruction number word ≡ Ok instr
     → after front (code_from number all) ≡ after (front ++ instr ∷ []) (code_from (number + 1) more)
 word_read front number all word more instr is read =
     ap (λ (ws : List (List ℕ)). after front (code_from number ws)) is
@@ -28,8 +28,8 @@ word_read front number all word more instr is read =
     ∙ in_turn front instr (code_from (number + 1) more)
 
 -- the first word is refused
-pub word_refused : (front : List Instr) (number : ℕ) (all : List (List ℕ)) (word : List ℕ) (more : List (List ℕ)) (fault : AsmFault)
-    → all ≡ word ∷ more → word_instruction number word ≡ Err fault → after front (code_from number all) ≡ Err fault
+pub word_refused : (front : List Instr) (number : ℕ) (all : List (List ℕ)) (word : List ℕ) (more : List (List ℕ))
+    (fault : AsmFault) → all ≡ word ∷ more → word_instruction number word ≡ Err fault → after front (code_from number all) ≡ Err fault
 word_refused front number all word more fault is read =
     ap (λ (ws : List (List ℕ)). after front (code_from number ws)) is
     ∙ ap (λ (r : Result Instr AsmFault). after front (with_more number more r)) read

@@ -13,7 +13,8 @@ abbrev Row : Type 0
 Row = ℕ × List ℕ
 
 -- of all bytes these have a name
-pub bytes_named : filter has_name (range_with_len 0 256) ≡ 0x00 ∷ 0x4f ∷ (range_with_len 0x51 0x6c ++ range_with_len 0xc0 0x0e)
+pub bytes_named : filter has_name (range_with_len 0 256)
+    ≡ 0x00 ∷ 0x4f ∷ (range_with_len 0x51 0x6c ++ range_with_len 0xc0 0x0e)
 unfolding named_opcodes
 bytes_named = refl
 
@@ -22,31 +23,37 @@ bytes_named = refl
 found_by_opcode : (test : Row → Bool) (rows : List Row) (opcode : ℕ) (name : List ℕ) → list_all test rows ≡ true
     → name_in rows opcode ≡ Some name → test (opcode, name) ≡ true
 found_by_opcode test [] opcode name all found = absurd cc
-found_by_opcode test (row ∷ rows) opcode name all found = by_test (found_by_opcode test rows opcode name parts.1) (eqb opcode row.0) refl found
+found_by_opcode test (row ∷ rows) opcode name all found =
+    by_test (found_by_opcode test rows opcode name parts.1) (eqb opcode row.0) refl found
   where
     parts : (test row ≡ true) × (list_all test rows ≡ true)
     parts = and_parts (test row) (list_all test rows) all
 
-    by_test : (name_in rows opcode ≡ Some name → test (opcode, name) ≡ true) → (t : Bool) → eqb opcode row.0 ≡ t → cond t (Some row.1) (name_in rows opcode) ≡ Some name → test (opcode, name) ≡ true
+    by_test : (name_in rows opcode ≡ Some name → test (opcode, name) ≡ true) → (t : Bool) → eqb opcode row.0 ≡ t
+        → cond t (Some row.1) (name_in rows opcode) ≡ Some name → test (opcode, name) ≡ true
     by_test later true same is =
         let opcode_is : opcode ≡ row.0 = eqb-true opcode row.0 same in
         let name_is : row.1 ≡ name = cc in
-        subst (λ (o : ℕ). test (o, name) ≡ true) (sym opcode_is) (subst (λ (n : List ℕ). test (row.0, n) ≡ true) name_is parts.0)
+        subst (λ (o : ℕ). test (o, name) ≡ true) (sym opcode_is)
+        (subst (λ (n : List ℕ). test (row.0, n) ≡ true) name_is parts.0)
     by_test later false other is = later is
 
 found_by_name : (test : Row → Bool) (rows : List Row) (name : List ℕ) (opcode : ℕ) → list_all test rows ≡ true
     → opcode_in rows name ≡ Some opcode → test (opcode, name) ≡ true
 found_by_name test [] name opcode all found = absurd cc
-found_by_name test (row ∷ rows) name opcode all found = by_test (found_by_name test rows name opcode parts.1) (bytes_eq name row.1) refl found
+found_by_name test (row ∷ rows) name opcode all found =
+    by_test (found_by_name test rows name opcode parts.1) (bytes_eq name row.1) refl found
   where
     parts : (test row ≡ true) × (list_all test rows ≡ true)
     parts = and_parts (test row) (list_all test rows) all
 
-    by_test : (opcode_in rows name ≡ Some opcode → test (opcode, name) ≡ true) → (t : Bool) → bytes_eq name row.1 ≡ t → cond t (Some row.0) (opcode_in rows name) ≡ Some opcode → test (opcode, name) ≡ true
+    by_test : (opcode_in rows name ≡ Some opcode → test (opcode, name) ≡ true) → (t : Bool) → bytes_eq name row.1 ≡ t
+        → cond t (Some row.0) (opcode_in rows name) ≡ Some opcode → test (opcode, name) ≡ true
     by_test later true same is =
         let name_is : name ≡ row.1 = (bytes_eq-Decides name row.1).0 same in
         let opcode_is : row.0 ≡ opcode = cc in
-        subst (λ (n : List ℕ). test (opcode, n) ≡ true) (sym name_is) (subst (λ (o : ℕ). test (o, row.1) ≡ true) opcode_is parts.0)
+        subst (λ (n : List ℕ). test (opcode, n) ≡ true) (sym name_is)
+        (subst (λ (o : ℕ). test (o, row.1) ≡ true) opcode_is parts.0)
     by_test later false other is = later is
 
 -- ---- a name has one opcode, and an opcode one name
@@ -77,11 +84,13 @@ names_back = refl
 
 pub opcode_back : (opcode : ℕ) (name : List ℕ) → name_of opcode ≡ Some name → opcode_named name ≡ Some opcode
 opcode_back opcode name found =
-    number_is opcode (opcode_named name) (found_by_opcode (λ row. is_number row.0 (opcode_named row.1)) named_opcodes opcode name opcodes_back found)
+    number_is opcode (opcode_named name)
+    (found_by_opcode (λ row. is_number row.0 (opcode_named row.1)) named_opcodes opcode name opcodes_back found)
 
 pub name_back : (name : List ℕ) (opcode : ℕ) → opcode_named name ≡ Some opcode → name_of opcode ≡ Some name
 name_back name opcode found =
-    name_is name (name_of opcode) (found_by_name (λ row. is_name row.1 (name_of row.0)) named_opcodes name opcode names_back found)
+    name_is name (name_of opcode)
+    (found_by_name (λ row. is_name row.1 (name_of row.0)) named_opcodes name opcode names_back found)
 
 -- ---- a name is one word
 
@@ -89,8 +98,10 @@ names_unbroken : list_all (λ row. list_all (λ byte. not (is_blank byte)) row.1
 unfolding named_opcodes
 names_unbroken = refl
 
-pub name_unbroken : (opcode : ℕ) (name : List ℕ) → name_of opcode ≡ Some name → list_all (λ byte. not (is_blank byte)) name ≡ true
-name_unbroken opcode name found = found_by_opcode (λ row. list_all (λ byte. not (is_blank byte)) row.1) named_opcodes opcode name names_unbroken found
+pub name_unbroken : (opcode : ℕ) (name : List ℕ) → name_of opcode ≡ Some name
+    → list_all (λ byte. not (is_blank byte)) name ≡ true
+name_unbroken opcode name found =
+    found_by_opcode (λ row. list_all (λ byte. not (is_blank byte)) row.1) named_opcodes opcode name names_unbroken found
 
 -- ---- an element's own opcode has a name
 

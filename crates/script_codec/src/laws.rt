@@ -1,13 +1,16 @@
 //! Spelling and reading stand for one another, and so do opcodes and their names.
 
-ghost use Rattle.std.specs.Prelude.{◌≡◌, ℕ, IsTrue, List, [], ◌∷◌, ◌++◌, length, map, drop, Some, not};
+ghost use Rattle.std.specs.Prelude.{◌≡◌, ℕ, IsTrue, List, [], ◌∷◌, ◌++◌, length, map, drop, Some, not, codes};
 ghost use Rattle.std.specs.List.{list_all, filter, range_with_len};
 ghost use Rattle.cash_base.specs.Number.{IsBytes};
 ghost use Rattle.script_codec.specs.declared.instr.Instr.{Instr};
 ghost use Rattle.script_codec.specs.Spelling.{is_instruction, are_instructions, own_opcode, spelling, spellings};
 ghost use Rattle.script_codec.specs.Words.{is_blank};
 ghost use Rattle.script_codec.specs.Names.{name_of, opcode_named, has_name};
-ghost use Rattle.script_codec.specs.Reading.{reading, piece_of, size_after, size_of, Whole, spelled, instruction, is_minimal, meaning, is_minimal_piece, push};
+ghost use Rattle.script_codec.specs.Reading.{reading, piece_of, size_after, size_of, Whole, spelled, instruction, push};
+ghost use Rattle.script_codec.specs.Reading.{is_minimal, meaning, is_minimal_piece};
+
+use crate::instr::Opcode;
 
 /// Reading what was encoded gives the same instructions.
 pub fn reading_of_encoded()
@@ -65,4 +68,16 @@ pub fn one_opcode_a_name()
 pub fn own_opcode_is_named()
     ensures { (e : List ℕ) (opcode : ℕ) → own_opcode e ≡ Some opcode
         → IsTrue (has_name opcode) × (instruction (record { opcode = opcode; pushed = [] }) ≡ push e) }
+{}
+
+/// The opcodes that have a constant are those with its name.
+pub fn constants_have_their_names()
+    ensures { (name_of Opcode.NOP.0 ≡ Some (codes "NOP"))
+        × (name_of Opcode.NIP.0 ≡ Some (codes "NIP"))
+        × (name_of Opcode.PICK.0 ≡ Some (codes "PICK"))
+        × (name_of Opcode.EQUAL.0 ≡ Some (codes "EQUAL"))
+        × (name_of Opcode.NUMEQUAL.0 ≡ Some (codes "NUMEQUAL"))
+        × (name_of Opcode.HASH160.0 ≡ Some (codes "HASH160"))
+        × (name_of Opcode.CHECKMULTISIG.0 ≡ Some (codes "CHECKMULTISIG"))
+        × (name_of Opcode.CHECKMULTISIGVERIFY.0 ≡ Some (codes "CHECKMULTISIGVERIFY")) }
 {}

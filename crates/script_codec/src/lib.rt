@@ -1,4 +1,4 @@
-//! Instructions as bytes: what the bytes of a script spell, and the minimal spelling of instructions.
+//! Instructions as bytes: what the bytes of a script spell, the minimal spelling of instructions, and the names of opcodes.
 #![tactic(auto)]
 
 pub mod counting;
@@ -11,7 +11,7 @@ pub mod spelling;
 
 pub use counting::{counted, weight};
 pub use instr::{Instr, Opcode};
-pub use names::{has_name, opcode_name, opcode_named};
+pub use names::{are_named, has_name, is_named, opcode_name, opcode_named};
 pub use reading::{CodecFault, RawInstr, next_instr};
 pub use spans::{Mark, Marked, Spanned};
 pub use spelling::{encode, own_opcode};

@@ -4,6 +4,8 @@ ghost use Rattle.std.specs.Prelude.{◌≡◌, map, MatchOption};
 ghost use Rattle.script_codec.specs.Names;
 ghost use Rattle.script_codec.specs.Names.{name_of};
 
+use crate::instr::Instr;
+
 /// An opcode and its name, without the `OP_` in front of it.
 type NamedOpcode = (u8, &'static str);
 
@@ -135,8 +137,8 @@ const NAMED_OPCODES: [NamedOpcode; 124] = [
     (0xcd, "OUTPUTBYTECODE"),
 ];
 
-/// The name of an opcode, without the `OP_` in front of it, or `None` where it has none: the bytes 01 to 4e (hexadecimal), which
-/// push bytes of the script, 50, and those that the specification gives no meaning. It takes no memory.
+/// The name of an opcode, without the `OP_` in front of it, or `None` where it has none: the bytes 01 to 4e (hexadecimal),
+/// which push bytes of the script, 50, and those that the specification gives no meaning. It takes no memory.
 ///
 /// Source: the Bitcoin Cash specification, on opcodes, after the upgrade of May 2022.
 #[tactic(auto, unfolding(crate::specs::Names::named_opcodes))]
@@ -170,7 +172,25 @@ pub fn has_name(opcode: u8) -> bool
     opcode_name(opcode).is_some()
 }
 
-/// The opcode that has a name, which is given without the `OP_` in front of it, or `None` where none has it. It takes no memory.
+/// Whether an instruction is a push, or an opcode above 60 (hexadecimal) that has a name. It takes no memory.
+pub fn is_named(instr: &Instr) -> bool
+    ensures { result ≡ Names.is_named instr.now }
+{
+    match instr {
+        Instr::Push(_) => true,
+        Instr::Do(opcode) => opcode.0 > 0x60 && has_name(opcode.0),
+    }
+}
+
+/// Whether that holds of each instruction. It takes no memory.
+pub fn are_named(code: &[Instr]) -> bool
+    ensures { result ≡ Names.are_named code.now }
+{
+    code.iter().all(|instr| is_named(instr))
+}
+
+/// The opcode that has a name, which is given without the `OP_` in front of it, or `None` where none has it. It takes no
+/// memory.
 #[tactic(auto, unfolding(crate::specs::Names::named_opcodes))]
 pub fn opcode_named(name: &[u8]) -> Option<u8>
     ensures { result ≡ Names.opcode_named name.now }

@@ -49,8 +49,8 @@ fn push(bytes: &mut Vec<u8>, element: &[u8]) -> Result<(), AllocError>
     Ok(())
 }
 
-/// The opcode of an element that has one of its own: the empty element, the elements 01 to 10 (hexadecimal), and 81. It takes no
-/// memory.
+/// The opcode of an element that has one of its own: the empty element, the elements 01 to 10 (hexadecimal), and 81. It takes
+/// no memory.
 ///
 /// Source: the Bitcoin Cash specification, on minimal pushes.
 pub fn own_opcode(element: &[u8]) -> Option<u8>
