@@ -50,9 +50,5 @@ pub fn texts_of(value: &Value) -> Option<&Vec<Value>>
     ensures { option_map (λ v. items_view v.now.items) result ≡ fields.texts_of (view value.now) }
 {
     let items = value.as_array()?;
-    if are_texts(items) {
-        Some(items)
-    } else {
-        None
-    }
+    if are_texts(items) { Some(items) } else { None }
 }

@@ -41,13 +41,7 @@ pub fn natural_within(greatest: u64, whole: Whole) -> Option<u64>
     ensures within { IfSome result (λ n. n ≤ greatest) }
 {
     match whole {
-        Whole::Natural(n) => {
-            if n <= greatest {
-                Some(n)
-            } else {
-                None
-            }
-        }
+        Whole::Natural(n) => { if n <= greatest { Some(n) } else { None } }
         Whole::Negative(_) => None,
     }
 }
