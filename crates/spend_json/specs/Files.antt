@@ -26,7 +26,7 @@ framed (Ok frame) = Ok frame
 framed (Err fault) = Err (faults.Frame fault)
 
 -- the frame of the parts
-abbrev pub frame_of : Transaction Locking → Result (Transaction Locking) SpendFault
+unfoldable pub frame_of : Transaction Locking → Result (Transaction Locking) SpendFault
 frame_of t = framed (checked_frame (transaction t.version t.locktime (counted t.inputs) (counted t.outputs) t.active))
 
 abbrev pub tabled : Result (List Row) TableFault → Result (List Row) SpendFault
@@ -34,7 +34,7 @@ tabled (Ok rows) = Ok rows
 tabled (Err fault) = Err (faults.Table fault)
 
 -- the table of the rows
-abbrev pub table_of : List Row → Result (List Row) SpendFault
+unfoldable pub table_of : List Row → Result (List Row) SpendFault
 table_of rows = tabled (checked_table (counted rows))
 
 unfoldable pub spend_at : Data → Result SpendParts SpendFault

@@ -22,6 +22,7 @@ use tx_context::{Frame, TableFault, VerdictRow, Verdicts};
 const MOST_COUNTED: usize = u32::MAX as usize;
 
 // The frame of the parts.
+#[tactic(auto, unfolding(crate::specs::Files::frame_of))]
 fn frame_of(parts: TransactionParts) -> Result<Frame, SpendFault>
     ensures { Gives (λ frame. frame) result (frame_of (parts_of parts)) }
 {
@@ -41,6 +42,7 @@ fn frame_of(parts: TransactionParts) -> Result<Frame, SpendFault>
 }
 
 // The table of the rows.
+#[tactic(auto, unfolding(crate::specs::Files::table_of))]
 fn table_of(alloc: Global, mut rows: Vec<VerdictRow>) -> Result<Verdicts, SpendFault>
     ensures { Gives (λ table. table) result (table_of rows.items) }
 {

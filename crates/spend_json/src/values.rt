@@ -121,7 +121,11 @@ fn value_of(alloc: Global, value: &Value, field: SpendField) -> Result<TypedValu
     }
 }
 
-fn each_value(alloc: Global, items: &[Value], field: SpendField) -> Result<Vec<TypedValue>, SpendFault>
+fn each_value(
+    alloc: Global,
+    items: &[Value],
+    field: SpendField,
+) -> Result<Vec<TypedValue>, SpendFault>
     ensures { Gives (λ v. map value_parts v.items) result (each (value_of field) (items_view items.now)) }
 {
     let mut values = Vec::new(alloc);
@@ -152,7 +156,11 @@ fn values_of(alloc: Global, value: &Value, field: SpendField) -> Result<Vec<Type
 
 /// A field with a list of values, or none where it is missing.
 #[tactic(auto, unfolding(crate::specs::Values::values_at))]
-pub fn values_at(alloc: Global, value: &Value, field: SpendField) -> Result<Vec<TypedValue>, SpendFault>
+pub fn values_at(
+    alloc: Global,
+    value: &Value,
+    field: SpendField,
+) -> Result<Vec<TypedValue>, SpendFault>
     ensures { Gives (λ v. map value_parts v.items) result (values_at field (view value.now)) }
 {
     match value.get(field.key()) {
