@@ -1,7 +1,7 @@
 -- Reading the text of code gives the code.
-use Rattle.std.proofs.Common.{◌≡◌, ℕ, ◌+◌, ◌<◌, Bool, true, false, not, ◌&&◌, ltb, cond, List, [], ◌∷◌, ◌++◌, length, drop, map, Option, Some, None, Result, Ok, Err, refl, sym, ap, subst, ◌∙◌, arith, append-nil, inl}
-use Rattle.std.specs.Prelude.{nat_eq, nat_le, codes, is_some}
-use Rattle.std.specs.List.{list_all, starts_with, AllByRecursion}
+use Rattle.std.proofs.Common.{◌≡◌, ℕ, ◌+◌, ◌<◌, Bool, true, false, not, ltb, cond, List, [], ◌∷◌, ◌++◌, length, drop, map, Option, Some, None, Result, Ok, Err, refl, sym, ap, subst, ◌∙◌, arith, append-nil, inl}
+use Rattle.std.specs.Prelude.{nat_le, codes, is_some}
+use Rattle.std.specs.List.{AllByRecursion}
 use Rattle.std.proofs.lemmas.Bool.{and_parts, false≢true, le-leb}
 use Rattle.std.proofs.lemmas.Bool.Decides.{nat_tests}
 use Rattle.hex.specs.Hex.{encode_lower, decode_of}
@@ -19,7 +19,7 @@ use Rattle.script_codec.proofs.Table.{opcode_back, name_unbroken, own_named}
 use Rattle.asm_text.specs.declared.fault.AsmFault.{AsmFault}
 use Rattle.asm_text.specs.declared.fault.AsmFault.TheVariants.{TooLong}
 use Rattle.asm_text.specs.Assembly.{opcode_word, push_word, word_of, further_words, assembly_text, named, pushed, word_instruction, code_from, assembly_code, PushesElement}
-use Rattle.asm_text.proofs.Digits.{unbroken, byte_at, IsDigitWord, digit_word}
+use Rattle.asm_text.proofs.Digits.{unbroken, byte_at, digit_word}
 
 -- ---- a text of words
 

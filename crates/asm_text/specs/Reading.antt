@@ -1,5 +1,5 @@
 -- What is read of a text while some of its words are left.
-use Rattle.std.specs.Prelude.{List, ◌++◌, Result, Ok, Err}
+use Rattle.std.specs.Prelude.{List, ◌++◌, Result, Ok}
 use Rattle.cash_base.specs.Failing.{◌>>=◌}
 use Rattle.script_codec.specs.declared.instr.Instr.{Instr}
 use Rattle.asm_text.specs.declared.fault.AsmFault.{AsmFault}

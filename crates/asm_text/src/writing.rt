@@ -1,12 +1,12 @@
 //! Code as text.
 
 ghost use Rattle.std.specs.Prelude.{◌≡◌, ◌++◌, ◌∷◌, IsTrue, IfOk, OnOk, string_bytes};
-ghost use Rattle.script_codec.specs.Spelling.{own_opcode};
+ghost use Rattle.script_codec.specs.Spelling;
 ghost use Rattle.script_codec.specs.Names.{name_of, are_named};
 ghost use Rattle.asm_text.specs.Assembly.{assembly_text, further_words, word_of, opcode_word, push_word};
 
 use cash_base::Memory;
-use script_codec::{Instr, opcode_name, own_opcode as own_opcode_of};
+use script_codec::{Instr, opcode_name, own_opcode};
 use std::alloc::{AllocError, Global};
 
 /// The text of some code: a word for each instruction, and one blank between two words.
@@ -62,9 +62,9 @@ fn push_instr(alloc: Global, text: &mut String, instr: &Instr) -> Result<(), All
 /// Adds the word of a push.
 fn push_element(alloc: Global, text: &mut String, element: &[u8]) -> Result<(), AllocError>
     ensures { OnOk result (string_bytes text.new
-        ≡ string_bytes text.old ++ push_word (own_opcode element.now) element.now) }
+        ≡ string_bytes text.old ++ push_word (Spelling.own_opcode element.now) element.now) }
 {
-    match own_opcode_of(element) {
+    match own_opcode(element) {
         Some(opcode) => push_opcode(text, opcode)?,
         None => text.push_str(hex::encode(alloc, element)?.as_str())?,
     }

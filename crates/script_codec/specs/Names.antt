@@ -1,5 +1,5 @@
--- The names of opcodes, without the `OP_` in front of them, as the Bitcoin Cash specification has them after May 2022. A byte
--- that isn't in the table has no name: those that push bytes of the script, 50, and those that have no meaning.
+-- The names of opcodes, without the `OP_` in front of them, as the Bitcoin Cash specification has them after May 2022. The
+-- bytes 01 to 4e, which push bytes of the script, 50, bd to bf, and those from ce on have none.
 use Rattle.std.specs.Prelude.{ℕ, suc, Bool, true, ◌==◌, ◌&&◌, nat_lt, if◌then◌else◌, List, [], ◌∷◌, codes, Option, Some, None, is_some}
 use Rattle.std.specs.List.{list_all, flat_map}
 use Rattle.std.specs.Str.{bytes_eq}

@@ -137,8 +137,8 @@ const NAMED_OPCODES: [NamedOpcode; 124] = [
     (0xcd, "OUTPUTBYTECODE"),
 ];
 
-/// The name of an opcode, without the `OP_` in front of it, or `None` where it has none: the bytes 01 to 4e (hexadecimal),
-/// which push bytes of the script, 50, and those that the specification gives no meaning. It takes no memory.
+/// The name of an opcode, without the `OP_` in front of it, or `None` where it has none. Without a name are the bytes 01 to
+/// 4e (hexadecimal), which push bytes of the script, 50, bd to bf, and those from ce on. It takes no memory.
 ///
 /// Source: the Bitcoin Cash specification, on opcodes, after the upgrade of May 2022.
 #[tactic(auto, unfolding(crate::specs::Names::named_opcodes))]
@@ -182,7 +182,7 @@ pub fn is_named(instr: &Instr) -> bool
     }
 }
 
-/// Whether that holds of each instruction. It takes no memory.
+/// Whether each instruction is a push, or an opcode above 60 (hexadecimal) that has a name. It takes no memory.
 pub fn are_named(code: &[Instr]) -> bool
     ensures { result ≡ Names.are_named code.now }
 {
