@@ -1,5 +1,5 @@
 -- Reading a JSON value, kind by kind.
-use Rattle.std.specs.Prelude.{◌≡◌, ◌≢◌, ℕ, ◌&&◌, Bool, true, List, [], ◌∷◌, Option, Some, None, is_some, option_map, option_and_then, Result, Ok, Err, nat_le, if◌then◌else◌}
+use Rattle.std.specs.Prelude.{◌≡◌, ◌≢◌, ℕ, ◌&&◌, Bool, true, List, [], ◌∷◌, Option, Some, None, is_some, option_and_then, Result, Ok, Err, nat_le, if◌then◌else◌}
 use Rattle.std.specs.Result.{result_ok}
 use Rattle.cash_base.specs.Failing.{◌>>=◌}
 use Rattle.hex.specs.Hex.{decode_of}

@@ -1,8 +1,8 @@
 //! Reads cases of spend files, one on each line, and prints of each what the reader answers.
 //!
-//! `try TEXT` reads a text. A longer file is built by `add TEXT`, `many COUNT TEXT` for so many copies, and `bytes HEX`, and is
-//! read by `read`. After ` = ` stands the answer: the fault and its field, or all that the file holds. Bytes stand in hexadecimal,
-//! none as `-`; a list of more than 20 items as their number. Other lines are printed as they are.
+//! `try TEXT` reads a text. A longer file is built by `add TEXT`, `many COUNT TEXT` for so many copies, and `bytes HEX`, and
+//! is read by `read`. After ` = ` stands the answer: the fault and its field, or all that the file holds. Bytes stand in
+//! hexadecimal, none as `-`; a list of more than 20 items as their number. Other lines are printed as they are.
 #![tactic(auto)]
 
 mod shown;

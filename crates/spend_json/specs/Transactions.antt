@@ -1,5 +1,5 @@
 -- The transaction of a spend file.
-use Rattle.std.specs.Prelude.{ℕ, List, [], ◌∷◌, length, replicate, codes, bytes_eq, not, ◌==◌, Option, Some, None, ok_or, Result, Ok, if◌then◌else◌}
+use Rattle.std.specs.Prelude.{ℕ, List, [], ◌∷◌, length, replicate, codes, bytes_eq, not, ◌==◌, Some, None, ok_or, Result, Ok, if◌then◌else◌}
 use Rattle.cash_base.specs.Failing.{◌>>=◌, ◌>>◌, refused_if}
 use Rattle.serde_json.specs.Data.{Data}
 use Rattle.serde_json.specs.Find.{get}

@@ -1,5 +1,5 @@
 -- Values of parameters, and elements. All faults of a list name one field, so each kind of fault is sought over all items.
-use Rattle.std.specs.Prelude.{ℕ, ℤ, List, [], length, codes, map, Bool, true, false, not, Option, Some, None, is_some, ok_or, option_map, option_and_then, Result, Ok, Err, nat_lt}
+use Rattle.std.specs.Prelude.{ℕ, List, [], length, codes, Bool, true, false, not, Option, Some, None, is_some, ok_or, option_map, option_and_then, Result, Ok, Err, nat_lt}
 use Rattle.cash_base.specs.Failing.{◌>>=◌, ◌>>◌, refused_if}
 use Rattle.serde_json.specs.Data.{Data, null, boolean, number, string, array, object}
 use Rattle.serde_json.specs.Events.{items_len}

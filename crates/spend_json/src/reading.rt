@@ -74,10 +74,10 @@ fn spend_at(alloc: Global, value: &Value) -> Result<SpendFile, SpendFault>
 
 /// The spend file that bytes spell, or its first fault.
 ///
-/// `NotJson` comes where they spell no JSON object. Then the fields are looked at in the order of `SpendField`, the fields inside
-/// one after it, and the items of a list in turn; in one field the faults come in the order of `SpendFault`. `Frame` and then
-/// `Table` come last. Each field may be missing but those of a verdict, of which `message` may be where the kind is another than
-/// `data`; unknown fields are passed over. The format is this project's own: docs/FORMATS.md.
+/// `NotJson` comes where they spell no JSON object. Then the fields are looked at in the order of `SpendField`, the fields
+/// inside one after it, and the items of a list in turn; in one field the faults come in the order of `SpendFault`. `Frame`
+/// and then `Table` come last. Each field may be missing but those of a verdict, of which `message` may be where the kind is
+/// another than `data`; unknown fields are passed over. The format is this project's own: docs/FORMATS.md.
 #[tactic(auto, unfolding(crate::specs::Files::spend_reading))]
 pub fn read(alloc: Global, bytes: &[u8]) -> Result<SpendFile, SpendFault>
     ensures { Gives spend_parts result (spend_reading bytes.now) }
