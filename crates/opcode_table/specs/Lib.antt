@@ -1,0 +1,5 @@
+pub mod Stack
+pub mod Turned
+pub mod Asking
+pub mod Deeds
+pub mod Table
