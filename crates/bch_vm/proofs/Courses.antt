@@ -3,7 +3,7 @@ use Rattle.std.proofs.Common.{◌≡◌, ◌<◌, ℕ, Bool, length, refl, sym, 
 use Rattle.bch_vm.specs.declared.outcome.Which.{Which}
 use Rattle.bch_vm.specs.declared.outcome.MachineOutcome.{MachineOutcome}
 use Rattle.bch_vm.specs.declared.outcome.Step.TheVariants.{Ran, Ended}
-use Rattle.bch_vm.specs.Stack.{Stack}
+use Rattle.opcode_table.specs.Stack.{Stack}
 use Rattle.bch_vm.specs.Script.{State}
 use Rattle.bch_vm.specs.Course.{Course, Row, Passes, Gives, Stops, ◌>>=◌, row_of, outcome_of, rows_of}
 use Rattle.bch_vm.specs.Spend.{given_stack}

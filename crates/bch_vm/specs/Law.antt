@@ -1,22 +1,27 @@
 -- A spend of code as a redeem script, as BIP 16 has it, and the run of its instructions that decides it.
-use Rattle.std.specs.Prelude.{◌≡◌, ℕ, ◌+◌, ◌≤◌, IsTrue, Bool, true, false, not, List, [], ◌∷◌, ◌++◌, length, map, reverse, Result, Ok, Err}
+use Rattle.std.specs.Prelude.{◌≡◌, ℕ, ◌≤◌, nat_le, ℤ, pos, negsuc, IsTrue, Bool, true, false, not, ◌&&◌, ◌||◌, List, [], ◌∷◌, ◌++◌, length, map, reverse, Option, Some, None, Result, Ok, Err}
 use Rattle.std.specs.List.{AllByRecursion}
 use Rattle.cash_base.specs.declared.fault.MachineCause.{MachineCause}
 use Rattle.cash_base.specs.declared.fault.MachineCause.TheVariants.{OpLimit, StackLimit}
 use Rattle.cash_base.specs.Element.{IsElement}
-use Rattle.cash_base.specs.Number.{truth_of}
+use Rattle.cash_base.specs.Number.{truth_of, number_of}
 use Rattle.ripemd160.specs.Ripemd160.{ripemd160}
 use Rattle.sha2.specs.Sha256.{sha256}
 use Rattle.tx_context.specs.Transaction.{Transaction}
+use Rattle.tx_context.specs.Table as verdict
+use Rattle.tx_context.specs.World.{World}
 use Rattle.script_codec.specs.declared.instr.Instr.{Instr}
 use Rattle.script_codec.specs.Spelling.{are_instructions, spellings}
 use Rattle.script_codec.specs.Reading.{reading, push}
-use Rattle.script_codec.specs.Counting.{counted_in}
+use Rattle.script_codec.specs.declared.instr.Instr.TheVariants.{Push, Do}
+use Rattle.script_codec.specs.Counting.{number_pushed, takes_keys, counted_in}
 use Rattle.bch_vm.specs.declared.outcome.Which.TheVariants.{Redeem}
 use Rattle.bch_vm.specs.declared.outcome.MachineOutcome.{MachineOutcome}
 use Rattle.bch_vm.specs.declared.outcome.MachineOutcome.TheVariants.{Accepted, Refused}
-use Rattle.bch_vm.specs.Stack.{Stack}
-use Rattle.bch_vm.specs.Script.{State, stack_at_end, Failure}
+use Rattle.opcode_table.specs.Stack.{Stack}
+use Rattle.bch_vm.specs.Setting.{setting_in}
+use Rattle.bch_vm.specs.Board.{height}
+use Rattle.bch_vm.specs.Script.{State, state, beginning, run, stack_at_end, Failure}
 use Rattle.bch_vm.specs.Course.{outcome_of}
 use Rattle.bch_vm.specs.Spend.{spent_input, after_redeem}
 
@@ -41,12 +46,40 @@ pub record IsRedeemed (elements : Stack) (code : List Instr) (context : Transact
   pub unlocking : (spent_input context).unlocking ≡ unlocking_script elements (spellings code)
   pub locking : (spent_input context).locking ≡ locking_script (spellings code)
 
--- They stay within the limits of the machine, whatever is run: at most 1,000 elements on the stacks, since each
--- instruction adds one at most, the redeem script is one and the locking script has three instructions; and at most 201
--- opcodes that count.
+-- the world of the run of the code: the transaction, the verdicts, and the code's bytes as redeem script
+abbrev pub world_of : List Instr → Transaction (List ℕ) → List verdict.Row → World
+world_of code context verdicts = record { context = context; verdicts = verdicts; redeem = spellings code }
+
+-- ---- code that keeps within the limits of the machine
+
+-- the push of a number of keys, from 0 to 20
+abbrev pub is_key_count : Option ℤ → Bool
+is_key_count (Some (pos n)) = nat_le n 20
+is_key_count (Some (negsuc n)) = false
+is_key_count None = false
+
+abbrev pub pushes_key_count : Instr → Bool
+pushes_key_count instr = is_key_count (number_pushed instr)
+
+-- CHECKMULTISIG or CHECKMULTISIGVERIFY
+abbrev pub asks_for_keys : Instr → Bool
+asks_for_keys (Push e) = false
+asks_for_keys (Do opcode) = takes_keys opcode.0
+
+-- Each check of several signatures stands directly after the push of its number of keys, where `before` tells whether such a
+-- push stands before the code.
+abbrev pub are_keys_known : Bool → List Instr → Bool
+are_keys_known before [] = true
+are_keys_known before (instr ∷ code) =
+    (before || not (asks_for_keys instr)) && are_keys_known (pushes_key_count instr) code
+
+-- At most 33 elements are handed in, and the code counts at most 201 opcodes, the keys of each check of several signatures
+-- among them. With at most 520 bytes of code no run of it comes to a limit: each instruction adds at most one element, and each
+-- counted opcode at most two more, so at most 955 stand.
 pub record IsSmall (elements : Stack) (code : List Instr) : Type 0 where
-  pub height : length elements + length code ≤ 996
+  pub few : length elements ≤ 33
   pub opcodes : counted_in (reading (spellings code)) ≤ 201
+  pub keys : IsTrue (are_keys_known false code)
 
 -- ---- what decides
 
@@ -72,3 +105,11 @@ is_limit _ = false
 abbrev pub is_in_room : MachineOutcome → Bool
 is_in_room Accepted = true
 is_in_room (Refused script at cause) = not (is_limit cause)
+
+-- ---- how high the stacks of a run get
+
+-- in each state that the run of the code comes to, there are at most so many elements on both stacks
+abbrev pub StaysBelow : ℕ → World → List Instr → Stack → Type 0
+StaysBelow most world code elements =
+    (before after : List Instr) (s : State) → before ++ after ≡ code
+    → run (setting_in world code) before (state elements beginning) ≡ Ok s → height s.board ≤ most

@@ -1,5 +1,5 @@
 pub mod Stack
-pub mod Opcode
+pub mod Setting
 pub mod Board
 pub mod Script
 pub mod Course

@@ -10,7 +10,8 @@ use Rattle.bch_vm.specs.declared.outcome.Which.{Which}
 use Rattle.bch_vm.specs.declared.outcome.Which.TheVariants.{Unlocking, Locking, Redeem}
 use Rattle.bch_vm.specs.declared.outcome.MachineOutcome.{MachineOutcome}
 use Rattle.bch_vm.specs.declared.outcome.MachineOutcome.TheVariants.{Accepted, Refused}
-use Rattle.bch_vm.specs.Stack.{Stack}
+use Rattle.opcode_table.specs.Stack.{Stack}
+use Rattle.bch_vm.specs.Setting.{Setting, setting_of}
 use Rattle.bch_vm.specs.Board.{is_executed}
 use Rattle.bch_vm.specs.Script.{State, state, beginning, balanced, Counted, counted, piece_after, Failure}
 use Rattle.bch_vm.specs.Course.{Course, Passes, Gives, Stops, ◌>>=◌, ◌>>◌, row_of, outcome_of}
@@ -33,20 +34,20 @@ step_course which piece s (Ok next) =
 step_course which piece s (Err cause) = Stops (Refused which s.state.progress.at cause)
 
 -- the instructions from the left, and at the end no condition may be open
-abbrev pub pieces_course : Which → List Piece → Counted → Course State
-pieces_course which [] s = told which (balanced s.state.board.conditions s.state)
-pieces_course which (piece ∷ more) s = do
-  next ← step_course which piece s (piece_after piece s)
-  pieces_course which more next
+abbrev pub pieces_course : Setting → Which → List Piece → Counted → Course State
+pieces_course setting which [] s = told which (balanced s.state.board.conditions s.state)
+pieces_course setting which (piece ∷ more) s = do
+  next ← step_course which piece s (piece_after setting piece s)
+  pieces_course setting which more next
 
 abbrev pub sized : Which → List ℕ → Course (Unit {0})
 sized which script = if nat_lt 10000 (length script) then Stops (Refused which 0 ScriptSize) else Gives tt
 
--- A script on the stack that is there. The alternate stack, the conditions and the count begin anew.
-abbrev pub script_course : Which → List ℕ → Stack → Course State
-script_course which script stack = do
+-- A script on the stack that is there. The alternate stack, the conditions, the count and the separator begin anew.
+abbrev pub script_course : Transaction (List ℕ) → List verdict.Row → Which → List ℕ → Stack → Course State
+script_course context verdicts which script stack = do
   sized which script
-  pieces_course which (reading script) (counted (state stack beginning) 0)
+  pieces_course (setting_of context verdicts script) which (reading script) (counted (state stack beginning) 0)
 
 -- ---- the unlocking script
 
@@ -64,8 +65,8 @@ given_stack (Gives s) = s.board.stack
 given_stack (Stops outcome) = []
 
 -- the stack that the unlocking script leaves
-abbrev pub stack_left : List ℕ → Stack
-stack_left unlocking = given_stack (script_course Unlocking unlocking [])
+abbrev pub stack_left : Transaction (List ℕ) → List verdict.Row → List ℕ → Stack
+stack_left context verdicts unlocking = given_stack (script_course context verdicts Unlocking unlocking [])
 
 -- ---- the ends
 
@@ -95,39 +96,40 @@ after_redeem end = do
   Stops (clean Redeem end.progress.last end.board.stack)
 
 -- The top of the stack is the redeem script, which is run on the rest. An empty stack has failed HASH160 before.
-abbrev pub redeemed : ℕ → Stack → Course MachineOutcome
-redeemed last [] = Stops (Refused Locking last EndEmpty)
-redeemed last (redeem ∷ rest) = do
-  end ← script_course Redeem redeem rest
+abbrev pub redeemed : Transaction (List ℕ) → List verdict.Row → ℕ → Stack → Course MachineOutcome
+redeemed context verdicts last [] = Stops (Refused Locking last EndEmpty)
+redeemed context verdicts last (redeem ∷ rest) = do
+  end ← script_course context verdicts Redeem redeem rest
   after_redeem end
 
 -- After a locking script of that pattern the stack that the unlocking script left is taken again.
-abbrev pub after_locking : List ℕ → List ℕ → State → Course MachineOutcome
-after_locking unlocking locking end = do
+abbrev pub after_locking : Transaction (List ℕ) → List verdict.Row → List ℕ → List ℕ → State → Course MachineOutcome
+after_locking context verdicts unlocking locking end = do
   top_check Locking (false_cause locking) end.progress.last end.board.stack
-  if is_p2sh locking then redeemed end.progress.last (stack_left unlocking) else Stops (clean Locking end.progress.last end.board.stack)
+  if is_p2sh locking then redeemed context verdicts end.progress.last (stack_left context verdicts unlocking) else Stops (clean Locking end.progress.last end.board.stack)
 
-abbrev pub after_unlocking : List ℕ → List ℕ → State → Course MachineOutcome
-after_unlocking unlocking locking left = do
-  end ← script_course Locking locking left.board.stack
-  after_locking unlocking locking end
+abbrev pub after_unlocking : Transaction (List ℕ) → List verdict.Row → List ℕ → List ℕ → State → Course MachineOutcome
+after_unlocking context verdicts unlocking locking left = do
+  end ← script_course context verdicts Locking locking left.board.stack
+  after_locking context verdicts unlocking locking end
 
 -- ---- a spend
 
 -- Before anything is run, the unlocking script is read: it must be pushes alone.
-abbrev pub scripts_course : List ℕ → List ℕ → Course MachineOutcome
-scripts_course unlocking locking = do
+abbrev pub scripts_course : Transaction (List ℕ) → List verdict.Row → List ℕ → List ℕ → Course MachineOutcome
+scripts_course context verdicts unlocking locking = do
   push_check 0 (reading unlocking)
-  left ← script_course Unlocking unlocking []
-  after_unlocking unlocking locking left
+  left ← script_course context verdicts Unlocking unlocking []
+  after_unlocking context verdicts unlocking locking left
 
 -- the input that is spent, which each context has
 abbrev pub spent_input : Transaction (List ℕ) → InputParts (List ℕ)
 spent_input t = slice_index_or t.inputs t.active (plain_input 0 [] [])
 
--- The course of the spend of the active input. No opcode of today asks for the verdicts or for the rest of the context.
+-- the course of the spend of the active input
 abbrev pub spend_course : Transaction (List ℕ) → List verdict.Row → Course MachineOutcome
-spend_course context verdicts = scripts_course (spent_input context).unlocking (spent_input context).locking
+spend_course context verdicts =
+    scripts_course context verdicts (spent_input context).unlocking (spent_input context).locking
 
 abbrev pub spend_outcome : Transaction (List ℕ) → List verdict.Row → MachineOutcome
 spend_outcome context verdicts = outcome_of (spend_course context verdicts)

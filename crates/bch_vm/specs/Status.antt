@@ -9,23 +9,24 @@ use Rattle.bch_vm.specs.declared.outcome.Step.{Step}
 use Rattle.bch_vm.specs.declared.outcome.Step.TheVariants.{Ran, Ended}
 use Rattle.bch_vm.specs.declared.phase.Phase.{Phase}
 use Rattle.bch_vm.specs.declared.phase.Phase.TheVariants.{Begin, Running, Over}
-use Rattle.bch_vm.specs.Stack.{Stack}
-use Rattle.bch_vm.specs.Script.{State, balanced}
+use Rattle.opcode_table.specs.Stack.{Stack}
+use Rattle.bch_vm.specs.Setting.{setting_of}
+use Rattle.bch_vm.specs.Script.{State, Counted, balanced}
 use Rattle.bch_vm.specs.Course.{Course, Passes, Stops, ◌>>=◌, row_of}
 use Rattle.bch_vm.specs.Spend.{told, after_unlocking, after_locking, after_redeem, scripts_course, spent_input, spend_course}
-use Rattle.bch_vm.specs.Position.{Position, state_at, rest_course}
+use Rattle.bch_vm.specs.Position.{rest_course}
 
 -- how far the spend is, where the run of its script is, and the redeem script
 pub record Status : Type 0 where
   pub phase : Phase
-  pub position : Position
+  pub run : Counted
   pub redeem : List ℕ
 
-abbrev pub status : Phase → Position → List ℕ → Status
-status phase position redeem = record { phase = phase; position = position; redeem = redeem }
+abbrev pub status : Phase → Counted → List ℕ → Status
+status phase run redeem = record { phase = phase; run = run; redeem = redeem }
 
 abbrev pub stack_of : Status → Stack
-stack_of s = (state_at s.position).board.stack
+stack_of s = s.run.state.board.stack
 
 -- the bytes of a script
 abbrev pub script_of : Which → List ℕ → List ℕ → List ℕ → List ℕ
@@ -34,28 +35,35 @@ script_of Locking unlocking locking redeem = locking
 script_of Redeem unlocking locking redeem = redeem
 
 -- what comes after a script
-abbrev pub after : Which → List ℕ → List ℕ → State → Course MachineOutcome
-after Unlocking unlocking locking s = after_unlocking unlocking locking s
-after Locking unlocking locking s = after_locking unlocking locking s
-after Redeem unlocking locking s = after_redeem s
+abbrev pub after : Transaction (List ℕ) → List verdict.Row → Which → List ℕ → List ℕ → State → Course MachineOutcome
+after context verdicts Unlocking unlocking locking s = after_unlocking context verdicts unlocking locking s
+after context verdicts Locking unlocking locking s = after_locking context verdicts unlocking locking s
+after context verdicts Redeem unlocking locking s = after_redeem s
 
 -- what comes after the last instruction of a script, where no condition may be open
-abbrev pub closed_course : Which → List ℕ → List ℕ → State → Course MachineOutcome
-closed_course which unlocking locking s = told which (balanced s.board.conditions s) >>= after which unlocking locking
+abbrev pub closed_course : Transaction (List ℕ) → List verdict.Row → Which → List ℕ → List ℕ → State → Course MachineOutcome
+closed_course context verdicts which unlocking locking s =
+    told which (balanced s.board.conditions s) >>= after context verdicts which unlocking locking
 
-abbrev pub phase_course : Phase → Position → List ℕ → List ℕ → List ℕ → Course MachineOutcome
-phase_course Begin p redeem unlocking locking = scripts_course unlocking locking
-phase_course (Running which) p redeem unlocking locking =
-    rest_course which (script_of which unlocking locking redeem) p >>= after which unlocking locking
-phase_course (Over outcome) p redeem unlocking locking = Stops outcome
+-- what is left of a script and after it
+abbrev pub running_course : Transaction (List ℕ) → List verdict.Row → Which → List ℕ → List ℕ → List ℕ → Counted → Course MachineOutcome
+running_course context verdicts which script unlocking locking p =
+    rest_course (setting_of context verdicts script) which script p >>= after context verdicts which unlocking locking
+
+abbrev pub phase_course : Transaction (List ℕ) → List verdict.Row → Phase → Counted → List ℕ → List ℕ → List ℕ → Course MachineOutcome
+phase_course context verdicts Begin p redeem unlocking locking = scripts_course context verdicts unlocking locking
+phase_course context verdicts (Running which) p redeem unlocking locking =
+    running_course context verdicts which (script_of which unlocking locking redeem) unlocking locking p
+phase_course context verdicts (Over outcome) p redeem unlocking locking = Stops outcome
 
 -- the course of what is left of the spend by these scripts
-abbrev pub scripts_from : List ℕ → List ℕ → Status → Course MachineOutcome
-scripts_from unlocking locking s = phase_course s.phase s.position s.redeem unlocking locking
+abbrev pub scripts_from : Transaction (List ℕ) → List verdict.Row → List ℕ → List ℕ → Status → Course MachineOutcome
+scripts_from context verdicts unlocking locking s = phase_course context verdicts s.phase s.run s.redeem unlocking locking
 
 -- the course of what is left of the spend
 abbrev pub course_from : Transaction (List ℕ) → List verdict.Row → Status → Course MachineOutcome
-course_from context verdicts s = scripts_from (spent_input context).unlocking (spent_input context).locking s
+course_from context verdicts s =
+    scripts_from context verdicts (spent_input context).unlocking (spent_input context).locking s
 
 -- nothing was done: all of a spend is left, whichever it is
 abbrev pub IsAtBeginning : Status → Type 0

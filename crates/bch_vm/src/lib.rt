@@ -1,13 +1,12 @@
 //! The Bitcoin Cash machine: what a spend's scripts do, instruction by instruction, and whether the spend is accepted.
 #![tactic(auto)]
 
-pub mod laws;
 pub mod machine;
 pub mod outcome;
 pub mod phase;
 mod room;
 mod run;
-mod stack;
+mod surroundings;
 
 pub use cash_base::MachineCause;
 pub use machine::Machine;

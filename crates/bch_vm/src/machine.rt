@@ -4,11 +4,13 @@ ghost use Rattle.std.specs.Prelude.{◌≡◌, ◌+◌, ◌≤◌, ◌<◌, List
 ghost use Rattle.script_codec.specs.Reading.{reading};
 ghost use Rattle.bch_vm.specs.declared.phase.Phase.TheVariants.{Running, Over};
 ghost use Rattle.script_codec.specs.declared.instr.Instr.{Instr};
+ghost use Rattle.tx_context.specs.Transaction.{Transaction};
+ghost use Rattle.tx_context.specs.Table.{Row as Verdict};
+ghost use Rattle.bch_vm.specs.Setting.{Setting};
 ghost use Rattle.bch_vm.specs.Script.{RunsInTurn};
 ghost use Rattle.bch_vm.specs.Course.{Gives, Stops};
 ghost use Rattle.bch_vm.specs.Spend;
 ghost use Rattle.bch_vm.specs.Spend.{push_check, stack_left, after_unlocking, after_locking, after_redeem, redeemed, scripts_course, spent_input, spend_outcome};
-ghost use Rattle.bch_vm.specs.Position.{Position, position, state_at};
 ghost use Rattle.bch_vm.specs.Status.{Status, stack_of, script_of, closed_course, scripts_from, course_from, IsAtBeginning, Goes, IsAtEnd, StaysAtEnd, rank};
 
 use crate::outcome::{MachineOutcome, Step, Which};
@@ -78,7 +80,12 @@ impl Machine {
             (course_from context.now verdicts.now self.new) (stack_of self.new) }
         ensures stays { StaysAtEnd result self.new }
     {
-        self.step_scripts(unlocking_of(context), locking_of(context))
+        self.step_scripts(
+            unlocking_of(context),
+            locking_of(context),
+            context,
+            verdicts,
+        )
     }
 
     /// The outcome of the spend of the context's active input, from its beginning.
@@ -96,63 +103,86 @@ impl Machine {
     }
 
     /// Passes one instruction of the spend by these scripts, or answers its end.
-    fn step_scripts(&mut self, unlocking: &[u8], locking: &[u8]) -> Step
+    fn step_scripts(
+        &mut self,
+        unlocking: &[u8],
+        locking: &[u8],
+        context: &Context,
+        verdicts: &Verdicts,
+    ) -> Step
         requires unlocking { length unlocking.now ≤ LONGEST_BYTECODE }
         requires locking { length locking.now ≤ LONGEST_BYTECODE }
-        ensures goes { Goes (scripts_from unlocking.now locking.now self.old) result
-            (scripts_from unlocking.now locking.now self.new) (stack_of self.new) }
+        ensures goes { Goes (scripts_from context.now verdicts.now unlocking.now locking.now self.old) result
+            (scripts_from context.now verdicts.now unlocking.now locking.now self.new) (stack_of self.new) }
         ensures stays { StaysAtEnd result self.new }
     {
         'phases: loop {
-            if let Some(step) = self.advance(unlocking, locking) {
+            if let Some(step) = self.advance(unlocking, locking, context, verdicts) {
                 return step;
             }
         }
     }
 
     /// Passes one instruction, answers the end, or goes to a later phase.
-    fn advance(&mut self, unlocking: &[u8], locking: &[u8]) -> Option<Step>
+    fn advance(
+        &mut self,
+        unlocking: &[u8],
+        locking: &[u8],
+        context: &Context,
+        verdicts: &Verdicts,
+    ) -> Option<Step>
         requires unlocking { length unlocking.now ≤ LONGEST_BYTECODE }
         requires locking { length locking.now ≤ LONGEST_BYTECODE }
-        ensures step { IfSome result (λ step. Goes (scripts_from unlocking.now locking.now self.old) step
-            (scripts_from unlocking.now locking.now self.new) (stack_of self.new)) }
+        ensures step { IfSome result (λ step.
+            Goes (scripts_from context.now verdicts.now unlocking.now locking.now self.old) step
+            (scripts_from context.now verdicts.now unlocking.now locking.now self.new) (stack_of self.new)) }
         ensures stays { IfSome result (λ step. StaysAtEnd step self.new) }
         ensures same { IfNone result
-            (scripts_from unlocking.now locking.now self.new ≡ scripts_from unlocking.now locking.now self.old) }
+            (scripts_from context.now verdicts.now unlocking.now locking.now self.new
+            ≡ scripts_from context.now verdicts.now unlocking.now locking.now self.old) }
         ensures later { IfNone result (rank self.new.phase < rank self.old.phase) }
     {
         match self.phase {
             Phase::Over(outcome) => Some(Step::Ended(outcome)),
             Phase::Begin => {
-                self.open_unlocking(unlocking, locking);
+                self.open_unlocking(unlocking, locking, context, verdicts);
                 None
             }
-            Phase::Running(which) => self.pass(which, unlocking, locking),
+            Phase::Running(which) => self.pass(which, unlocking, locking, context, verdicts),
         }
     }
 
     /// Passes one instruction of the script that is run, or goes to a later phase.
-    fn pass(&mut self, which: Which, unlocking: &[u8], locking: &[u8]) -> Option<Step>
+    fn pass(
+        &mut self,
+        which: Which,
+        unlocking: &[u8],
+        locking: &[u8],
+        context: &Context,
+        verdicts: &Verdicts,
+    ) -> Option<Step>
         requires phase { self.old.phase ≡ Running which }
         requires unlocking { length unlocking.now ≤ LONGEST_BYTECODE }
         requires locking { length locking.now ≤ LONGEST_BYTECODE }
-        ensures step { IfSome result (λ step. Goes (scripts_from unlocking.now locking.now self.old) step
-            (scripts_from unlocking.now locking.now self.new) (stack_of self.new)) }
+        ensures step { IfSome result (λ step.
+            Goes (scripts_from context.now verdicts.now unlocking.now locking.now self.old) step
+            (scripts_from context.now verdicts.now unlocking.now locking.now self.new) (stack_of self.new)) }
         ensures stays { IfSome result (λ step. StaysAtEnd step self.new) }
         ensures same { IfNone result
-            (scripts_from unlocking.now locking.now self.new ≡ scripts_from unlocking.now locking.now self.old) }
+            (scripts_from context.now verdicts.now unlocking.now locking.now self.new
+            ≡ scripts_from context.now verdicts.now unlocking.now locking.now self.old) }
         ensures later { IfNone result (rank self.new.phase < rank self.old.phase) }
     {
         let at = self.run.at();
         let script = script_of(which, unlocking, locking, self.redeem.as_slice());
-        match self.run.pass(script) {
+        match self.run.pass(script, context, verdicts) {
             Ok(Some(executed)) => Some(Step::Ran {
                 script: which,
                 at,
                 executed,
             }),
             Ok(None) => {
-                self.close(which, unlocking, locking);
+                self.close(which, unlocking, locking, context, verdicts);
                 None
             }
             Err(cause) => {
@@ -167,11 +197,18 @@ impl Machine {
     }
 
     /// Goes on after the last instruction of a script.
-    fn close(&mut self, which: Which, unlocking: &[u8], locking: &[u8])
+    fn close(
+        &mut self,
+        which: Which,
+        unlocking: &[u8],
+        locking: &[u8],
+        context: &Context,
+        verdicts: &Verdicts,
+    )
         requires unlocking { length unlocking.now ≤ LONGEST_BYTECODE }
         requires locking { length locking.now ≤ LONGEST_BYTECODE }
-        ensures course { scripts_from unlocking.now locking.now self.new
-            ≡ closed_course which unlocking.now locking.now (state_at self.old.position) }
+        ensures course { scripts_from context.now verdicts.now unlocking.now locking.now self.new
+            ≡ closed_course context.now verdicts.now which unlocking.now locking.now self.old.run.state }
         ensures later { rank self.new.phase < rank (Running which) }
     {
         if self.run.is_open() {
@@ -180,8 +217,8 @@ impl Machine {
             return;
         }
         match which {
-            Which::Unlocking => self.open_locking(unlocking, locking),
-            Which::Locking => self.close_locking(unlocking, locking),
+            Which::Unlocking => self.open_locking(unlocking, locking, context, verdicts),
+            Which::Locking => self.close_locking(unlocking, locking, context, verdicts),
             Which::Redeem => self.close_redeem(),
         }
     }
@@ -193,9 +230,16 @@ impl Machine {
     }
 
     /// Begins the unlocking script, where it is pushes alone.
-    fn open_unlocking(&mut self, unlocking: &[u8], locking: &[u8])
+    fn open_unlocking(
+        &mut self,
+        unlocking: &[u8],
+        locking: &[u8],
+        context: &Context,
+        verdicts: &Verdicts,
+    )
         requires { length unlocking.now ≤ LONGEST_BYTECODE }
-        ensures course { scripts_from unlocking.now locking.now self.new ≡ scripts_course unlocking.now locking.now }
+        ensures course { scripts_from context.now verdicts.now unlocking.now locking.now self.new
+            ≡ scripts_course context.now verdicts.now unlocking.now locking.now }
         ensures later { rank self.new.phase < 4 }
     {
         if let Err(outcome) = check_pushes(unlocking) {
@@ -209,9 +253,15 @@ impl Machine {
     }
 
     /// Begins the locking script on the stack that is there.
-    fn open_locking(&mut self, unlocking: &[u8], locking: &[u8])
-        ensures course { scripts_from unlocking.now locking.now self.new
-            ≡ after_unlocking unlocking.now locking.now (state_at self.old.position) }
+    fn open_locking(
+        &mut self,
+        unlocking: &[u8],
+        locking: &[u8],
+        context: &Context,
+        verdicts: &Verdicts,
+    )
+        ensures course { scripts_from context.now verdicts.now unlocking.now locking.now self.new
+            ≡ after_unlocking context.now verdicts.now unlocking.now locking.now self.old.run.state }
         ensures later { rank self.new.phase < 3 }
     {
         if locking.len() > LONGEST_SCRIPT {
@@ -223,29 +273,36 @@ impl Machine {
     }
 
     /// Decides after the locking script, or begins the redeem script.
-    fn close_locking(&mut self, unlocking: &[u8], locking: &[u8])
+    fn close_locking(
+        &mut self,
+        unlocking: &[u8],
+        locking: &[u8],
+        context: &Context,
+        verdicts: &Verdicts,
+    )
         requires { length unlocking.now ≤ LONGEST_BYTECODE }
-        ensures course { scripts_from unlocking.now locking.now self.new
-            ≡ after_locking unlocking.now locking.now (state_at self.old.position) }
+        ensures course { scripts_from context.now verdicts.now unlocking.now locking.now self.new
+            ≡ after_locking context.now verdicts.now unlocking.now locking.now self.old.run.state }
         ensures later { rank self.new.phase < 2 }
     {
         if let Err(outcome) = self.run.check_top(Which::Locking, false_cause(locking)) {
             self.phase = Phase::Over(outcome);
         } else if is_p2sh(locking) {
             let last = self.run.last();
-            self.open_redeem(last, unlocking, locking);
+            self.open_redeem(last, unlocking, context, verdicts);
         } else {
             self.phase = Phase::Over(self.run.outcome(Which::Locking));
         }
     }
 
     /// Takes the stack of the unlocking script again, and begins its top, the redeem script, on the rest.
-    fn open_redeem(&mut self, last: u32, unlocking: &[u8], locking: &[u8])
+    fn open_redeem(&mut self, last: u32, unlocking: &[u8], context: &Context, verdicts: &Verdicts)
         requires { length unlocking.now ≤ LONGEST_BYTECODE }
-        ensures course { scripts_from unlocking.now locking.now self.new ≡ redeemed last (stack_left unlocking.now) }
+        ensures course { (locking : List ℕ) → scripts_from context.now verdicts.now unlocking.now locking self.new
+            ≡ redeemed context.now verdicts.now last (stack_left context.now verdicts.now unlocking.now) }
         ensures later { rank self.new.phase < 2 }
     {
-        self.run.unlock(unlocking);
+        self.run.unlock(unlocking, context, verdicts);
         match self.run.take_script() {
             Some(redeem) => {
                 self.redeem = redeem;
@@ -257,8 +314,8 @@ impl Machine {
 
     /// Decides after the redeem script.
     fn close_redeem(&mut self)
-        ensures course { (unlocking locking : List ℕ) → scripts_from unlocking locking self.new
-            ≡ after_redeem (state_at self.old.position) }
+        ensures course { (context : Transaction (List ℕ)) (verdicts : List Verdict) (unlocking locking : List ℕ)
+            → scripts_from context verdicts unlocking locking self.new ≡ after_redeem self.old.run.state }
         ensures later { rank self.new.phase < 1 }
     {
         if let Err(outcome) = self.run.check_top(Which::Redeem, MachineCause::EndFalse) {
@@ -339,5 +396,5 @@ fn locking_of(context: &Context) -> &[u8]
 
 /// Instructions that stand one after the other run as the first and then the second.
 pub fn runs_in_turn()
-    ensures { (first second : List Instr) → RunsInTurn first second }
+    ensures { (setting : Setting) (first second : List Instr) → RunsInTurn setting first second }
 {}

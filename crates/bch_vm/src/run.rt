@@ -1,7 +1,7 @@
 //! The run of one script with all checks, an instruction at a time.
 
 ghost use Rattle.std.specs.Prelude.{◌≡◌, ◌≢◌, ◌↔◌, IsTrue, ◌+◌, ◌-◌, ◌≤◌, ◌<◌, ℕ, List, [], ◌∷◌, length, drop, map, reverse, IfOk, IfErr, OnOk, OnErr, IfSome, IfNone, Ok, Err, Some, None};
-ghost use Rattle.script_codec.specs.Reading.{instruction};
+ghost use Rattle.script_codec.specs.Reading.{instruction, size_of};
 ghost use Rattle.script_codec.specs.Places.{raw_in};
 ghost use Rattle.bch_vm.specs.declared.outcome.Which.{Which};
 ghost use Rattle.bch_vm.specs.declared.outcome.Which.TheVariants.{Unlocking};
@@ -10,15 +10,17 @@ ghost use Rattle.bch_vm.specs.Script.{raw_after, state_of, counted, state, begin
 ghost use Rattle.bch_vm.specs.Course.{Gives, Stops};
 ghost use Rattle.bch_vm.specs.Spend;
 ghost use Rattle.bch_vm.specs.Spend.{top_check, clean, stack_left, given_stack, told};
-ghost use Rattle.bch_vm.specs.Position.{Position, position, state_at, IsPassed};
+ghost use Rattle.bch_vm.specs.Setting.{setting_of};
+ghost use Rattle.bch_vm.specs.Position.{IsPassed};
 
 use crate::outcome::{MachineOutcome, Which};
 use crate::room::Room;
+use crate::surroundings::Surroundings;
 use cash_base::{Element, MAX_ELEMENT_LEN, MachineCause, Memory, truth};
 use script_codec::{RawInstr, next_instr, weight};
 use std::alloc::Global;
 use std::marker::Model;
-use tx_context::LONGEST_BYTECODE;
+use tx_context::{Context, LONGEST_BYTECODE, Verdicts};
 
 /// The most bytes that are pushed at once.
 const LONGEST_PUSH: u32 = MAX_ELEMENT_LEN as u32;
@@ -39,21 +41,21 @@ pub struct Run {
 }
 
 impl Model for Run {
-    ghost use Rattle.bch_vm.specs.Script.{state_of, counted};
-    ghost use Rattle.bch_vm.specs.Position.{Position, position, IsBounded};
+    ghost use Rattle.bch_vm.specs.Script.{Counted, counted, state_of};
+    ghost use Rattle.bch_vm.specs.Position.{IsBounded};
 
-    ghost Value = { Position };
+    ghost Value = { Counted };
 
-    ghost view = { λ run. position (counted (state_of run.room (record { at = run.at; last = run.last })) run.count) run.place };
+    ghost view = { λ run. counted (state_of run.room (record { at = run.at; last = run.last; place = run.place })) run.count };
 
     ghost invariant = { λ run. IsBounded
-        (position (counted (state_of run.room (record { at = run.at; last = run.last })) run.count) run.place) };
+        (counted (state_of run.room (record { at = run.at; last = run.last; place = run.place })) run.count) };
 }
 
 impl Run {
     /// A run with an empty stack, whose room is reserved.
     pub fn new(alloc: Global) -> Result<Run, Memory>
-        ensures { IfOk result (λ run. run ≡ position (counted (state [] beginning) 0) 0) }
+        ensures { IfOk result (λ run. run ≡ counted (state [] beginning) 0) }
     {
         Ok(Run {
             room: Room::new(alloc)?,
@@ -66,28 +68,28 @@ impl Run {
 
     /// The elements of the stack, the top last.
     pub fn stack(&self) -> &[Element]
-        ensures { reverse (map (λ e. e.items) result.now) ≡ (state_at self.now).board.stack }
+        ensures { reverse (map (λ e. e.items) result.now) ≡ self.now.state.board.stack }
     {
         self.room.stack()
     }
 
     /// How many instructions were passed.
     pub fn at(&self) -> u32
-        ensures { result ≡ (state_at self.now).progress.at }
+        ensures { result ≡ self.now.state.progress.at }
     {
         self.at
     }
 
     /// The index of the last executed instruction other than IF, NOTIF, ELSE and ENDIF, or 0.
     pub fn last(&self) -> u32
-        ensures { result ≡ (state_at self.now).progress.last }
+        ensures { result ≡ self.now.state.progress.last }
     {
         self.last
     }
 
     /// Begins a script with an empty stack.
     pub fn begin(&mut self)
-        ensures { self.new ≡ position (counted (state [] beginning) 0) 0 }
+        ensures { self.new ≡ counted (state [] beginning) 0 }
     {
         self.room.clear();
         self.begin_script();
@@ -95,7 +97,7 @@ impl Run {
 
     /// Begins a script on the stack that is there.
     pub fn begin_script(&mut self)
-        ensures { self.new ≡ position (counted (state (state_at self.old).board.stack beginning) 0) 0 }
+        ensures { self.new ≡ counted (state self.old.state.board.stack beginning) 0 }
     {
         self.room.begin_script();
         self.place = 0;
@@ -106,17 +108,17 @@ impl Run {
 
     /// Whether a condition is open.
     pub fn is_open(&self) -> bool
-        ensures { IsTrue result ↔ ((state_at self.now).board.conditions ≢ []) }
+        ensures { IsTrue result ↔ (self.now.state.board.conditions ≢ []) }
     {
         self.room.is_open()
     }
 
     /// Takes the top of the stack, and begins a script on the rest.
     pub fn take_script(&mut self) -> Option<Element>
-        ensures some { IfSome result (λ e. (state_at self.old).board.stack ≡ e.items ∷ (state_at self.new).board.stack) }
+        ensures some { IfSome result (λ e. self.old.state.board.stack ≡ e.items ∷ self.new.state.board.stack) }
         ensures begun { IfSome result (λ e. self.new
-            ≡ position (counted (state (state_at self.new).board.stack beginning) 0) 0) }
-        ensures none { IfNone result ((state_at self.old).board.stack ≡ []) }
+            ≡ counted (state self.new.state.board.stack beginning) 0) }
+        ensures none { IfNone result (self.old.state.board.stack ≡ []) }
     {
         let top = self.room.pop()?;
         self.begin_script();
@@ -126,9 +128,9 @@ impl Run {
     /// That the top of the stack is true at the end of a script, or the refusal.
     pub fn check_top(&self, script: Which, cause: MachineCause) -> Result<(), MachineOutcome>
         ensures ok { OnOk result
-            (top_check script cause (state_at self.now).progress.last (state_at self.now).board.stack ≡ Gives tt) }
+            (top_check script cause self.now.state.progress.last self.now.state.board.stack ≡ Gives tt) }
         ensures err { IfErr result (λ outcome.
-            top_check script cause (state_at self.now).progress.last (state_at self.now).board.stack ≡ Stops outcome) }
+            top_check script cause self.now.state.progress.last self.now.state.board.stack ≡ Stops outcome) }
     {
         let at = self.last;
         let Some(top) = self.room.stack().last() else {
@@ -144,7 +146,7 @@ impl Run {
 
     /// Whether the top of the stack is its only element: the outcome of the spend.
     pub fn outcome(&self, script: Which) -> MachineOutcome
-        ensures { result ≡ clean script (state_at self.now).progress.last (state_at self.now).board.stack }
+        ensures { result ≡ clean script self.now.state.progress.last self.now.state.board.stack }
     {
         if self.room.stack().len() == 1 {
             return MachineOutcome::Accepted;
@@ -155,16 +157,16 @@ impl Run {
     }
 
     /// Takes the stack that an unlocking script leaves.
-    pub fn unlock(&mut self, unlocking: &[u8])
+    pub fn unlock(&mut self, unlocking: &[u8], context: &Context, verdicts: &Verdicts)
         requires { length unlocking.now ≤ LONGEST_BYTECODE }
-        ensures { (state_at self.new).board.stack ≡ stack_left unlocking.now }
+        ensures { self.new.state.board.stack ≡ stack_left context.now verdicts.now unlocking.now }
     {
         self.begin();
         if unlocking.len() > LONGEST_SCRIPT {
             return;
         }
         'script: loop {
-            match self.pass(unlocking) {
+            match self.pass(unlocking, context, verdicts) {
                 Ok(Some(_)) => {}
                 Ok(None) => return self.clear_if_open(),
                 Err(_) => return self.begin(),
@@ -174,8 +176,8 @@ impl Run {
 
     /// Leaves nothing where a condition is open.
     fn clear_if_open(&mut self)
-        ensures { (state_at self.new).board.stack
-            ≡ given_stack (told Unlocking (balanced (state_at self.old).board.conditions (state_at self.old))) }
+        ensures { self.new.state.board.stack
+            ≡ given_stack (told Unlocking (balanced self.old.state.board.conditions self.old.state)) }
     {
         if self.is_open() {
             self.begin();
@@ -183,31 +185,49 @@ impl Run {
     }
 
     /// Passes the next instruction of a script, if there is one, and tells whether it was executed.
-    pub fn pass(&mut self, script: &[u8]) -> Result<Option<bool>, MachineCause>
+    pub fn pass(
+        &mut self,
+        script: &[u8],
+        context: &Context,
+        verdicts: &Verdicts,
+    ) -> Result<Option<bool>, MachineCause>
         requires { length script.now ≤ LONGEST_BYTECODE }
-        ensures { (which : Which) → IsPassed which script.now self.old result self.new }
+        ensures { (which : Which) →
+            IsPassed (setting_of context.now verdicts.now script.now) which script.now self.old result self.new }
     {
         if self.place >= script.len() {
             return Ok(None);
         }
         match next_instr(script, self.place) {
-            Ok(Some((raw, next))) => Ok(Some(self.pass_raw(script, &raw, next)?)),
+            Ok(Some((raw, next))) => Ok(Some(self.pass_raw(
+                script, &raw, next, context, verdicts,
+            )?)),
             Ok(None) => Ok(None),
             Err(_) => Err(MachineCause::Truncated),
         }
     }
 
-    /// Passes an instruction, after which the next begins at a place.
-    fn pass_raw(&mut self, script: &[u8], raw: &RawInstr, next: usize) -> Result<bool, MachineCause>
+    /// Passes an instruction.
+    fn pass_raw(
+        &mut self,
+        script: &[u8],
+        raw: &RawInstr,
+        next: usize,
+        context: &Context,
+        verdicts: &Verdicts,
+    ) -> Result<bool, MachineCause>
         requires ordered { raw.now.from ≤ raw.now.to }
         requires inside { raw.now.to ≤ length script.now }
-        requires after { self.old.place < next }
-        requires size { next ≤ LONGEST_BYTECODE }
-        ensures ok { OnOk result (raw_after (raw_in script.now raw.now) self.old.counted ≡ Ok self.new.counted) }
+        requires after { self.old.state.progress.place < next }
+        requires size { next ≡ self.old.state.progress.place + size_of (raw_in script.now raw.now) }
+        requires within { next ≤ LONGEST_BYTECODE }
+        ensures ok { OnOk result
+            (raw_after (setting_of context.now verdicts.now script.now) (raw_in script.now raw.now) self.old ≡ Ok self.new) }
         ensures executed { IfOk result (λ executed.
-            executed ≡ is_executed (instruction (raw_in script.now raw.now)) (state_at self.old).board.conditions) }
-        ensures place { OnOk result (self.new.place ≡ next) }
-        ensures err { IfErr result (λ cause. raw_after (raw_in script.now raw.now) self.old.counted ≡ Err cause) }
+            executed ≡ is_executed (instruction (raw_in script.now raw.now)) self.old.state.board.conditions) }
+        ensures place { OnOk result (self.new.state.progress.place ≡ next) }
+        ensures err { IfErr result (λ cause.
+            raw_after (setting_of context.now verdicts.now script.now) (raw_in script.now raw.now) self.old ≡ Err cause) }
     {
         if raw.to - raw.from > LONGEST_PUSH {
             return Err(MachineCause::PushSize);
@@ -222,12 +242,20 @@ impl Run {
         let instr = raw.meaning(script);
         let executed = self.room.is_executed(&instr);
         let effective = self.room.is_effective(&instr);
-        self.room.exec_limited(&instr)?;
+        let keys = self.room.keys_counted(&instr);
+        let around = Surroundings {
+            context,
+            verdicts,
+            script,
+            next,
+            left: MOST_OPCODES - count,
+        };
+        self.room.exec_limited(&instr, &around)?;
         if effective {
             self.last = self.at;
         }
         self.at += 1;
-        self.count = count;
+        self.count = count + keys;
         self.place = next;
         Ok(executed)
     }

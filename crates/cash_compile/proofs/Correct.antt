@@ -1,8 +1,8 @@
 -- Rows whose run agrees with the source's run make correct code: the spend of each pair of built scripts agrees with it.
-use Rattle.std.proofs.Common.{◌≡◌, ◌≢◌, ◌↔◌, eqb, ℕ, ◌+◌, ◌*◌, ◌≤◌, ◌<◌, ◌⊎◌, inl, inr, Bool, true, false, cond, List, [], ◌∷◌, ◌++◌, length, map, reverse, zero, suc, ◌-◌, Option, Some, None, Result, Ok, refl, sym, ap, ◌∙◌, subst, arith}
+use Rattle.std.proofs.Common.{◌≡◌, ◌≢◌, ◌↔◌, eqb, ℕ, ◌+◌, ◌*◌, ◌≤◌, ◌<◌, ◌⊎◌, inl, inr, Bool, true, false, cond, not, ◌||◌, List, [], ◌∷◌, ◌++◌, length, map, reverse, zero, suc, ◌-◌, Option, Some, None, Result, Ok, refl, sym, ap, ◌∙◌, subst, arith}
 use Rattle.std.specs.Prelude.{slice_get, slice_index_or, IsTrue, nat_lt, ◌==◌, if◌then◌else◌, unwrap_or}
 use Rattle.std.specs.List.{AllByRecursion, list_all, enumerate_from}
-use Rattle.std.proofs.lemmas.Bool.{and_parts, eq-eqb, le-ltb, or_from, false≢true}
+use Rattle.std.proofs.lemmas.Bool.{and_parts, and_from, eq-eqb, le-ltb, or_from, false≢true}
 use Rattle.std.proofs.lemmas.Bool.Decides.{eqb_tells}
 use Rattle.std.proofs.lemmas.List.{length-append, length-map, append-nil}
 use Rattle.std.proofs.lemmas.Grind.{flat_map-append}
@@ -27,6 +27,7 @@ use Rattle.tx_context.specs.Limits.{IsFrame}
 use Rattle.tx_context.specs.World.{World, filled_input, filled_inputs, filled_context}
 use Rattle.tx_context.specs.Table as verdict
 use Rattle.script_codec.specs.declared.instr.Instr.{Instr}
+use Rattle.script_codec.specs.declared.instr.Instr.TheVariants.{Push, Do}
 use Rattle.script_codec.specs.declared.spans.Spanned.{Spanned}
 use Rattle.script_codec.specs.Reading.{Raw, Piece, Whole, reading, spelled, instruction, is_minimal, size_of, push}
 use Rattle.script_codec.specs.Spelling.{are_instructions, is_instruction, spelling, spellings, minimal_push}
@@ -35,11 +36,11 @@ use Rattle.bch_vm.specs.declared.outcome.Which.TheVariants.{Redeem}
 use Rattle.bch_vm.specs.declared.outcome.Which.TheVariants as script
 use Rattle.bch_vm.specs.declared.outcome.MachineOutcome.{MachineOutcome}
 use Rattle.bch_vm.specs.declared.outcome.MachineOutcome.TheVariants.{Accepted, Refused}
-use Rattle.bch_vm.specs.Stack.{Stack}
+use Rattle.opcode_table.specs.Stack.{Stack}
 use Rattle.bch_vm.specs.Script.{State, run_end, run_outcome, stack_at_end, Failure}
 use Rattle.bch_vm.specs.Course.{Course, Gives, Stops, ◌>>◌, outcome_of}
 use Rattle.bch_vm.specs.Spend.{top_check, clean, spend_outcome}
-use Rattle.bch_vm.specs.Law.{unlocking_script, locking_script, decided_by, IsRedeemed, IsSmall}
+use Rattle.bch_vm.specs.Law.{unlocking_script, locking_script, world_of, pushes_key_count, asks_for_keys, are_keys_known, decided_by, IsRedeemed, IsSmall}
 use Rattle.span_map.specs.declared.SpanRow.{SpanRow}
 use Rattle.span_map.specs.Places.{place_of, place_after}
 use Rattle.cash_compile.specs.Rows.{instructions, places, is_keyless, is_plain, AreFew}
@@ -129,6 +130,22 @@ counted_few reads code spelled_ plain =
     ap reading (sym (append-nil (spellings code))) ∙ reads.front code [] spelled_ ∙ ap (λ (l : List Piece). map piece code ++ l) reads.end ∙ append-nil (map piece code) in
     subst (λ (ps : List Piece). counted_in ps ≤ length code) (sym read) (few_counted reads code plain)
 
+-- code without checks of several signatures has no keys that aren't known
+known_after : (before keyless : Bool) → keyless ≡ true → (before || keyless) ≡ true
+known_after true keyless is = refl
+known_after false keyless is = is
+
+asks_nothing : (instr : Instr) → is_keyless instr ≡ true → not (asks_for_keys instr) ≡ true
+asks_nothing (Push e) is = refl
+asks_nothing (Do opcode) is = is
+
+keys_known : (before : Bool) (code : List Instr) → list_all is_plain code ≡ true → are_keys_known before code ≡ true
+keys_known before [] plain = refl
+keys_known before (instr ∷ code) plain =
+    let parts = and_parts _ _ plain in
+    let keyless = asks_nothing instr (and_parts (is_instruction instr) (is_keyless instr) parts.0).1 in
+    and_from _ _ (known_after before (not (asks_for_keys instr)) keyless) (keys_known (pushes_key_count instr) code parts.1)
+
 -- ---- the input that is spent
 
 active_from : (n k active : ℕ) (locking unlocking : List ℕ) (xs : List (InputParts Locking)) (d : InputParts (List ℕ)) → active ≡ n + k → k < length xs
@@ -174,15 +191,16 @@ agrees_at_end rows (Failed span cause) end (inr (s, is, one, checks, place)) =
 
 abbrev pub Law : Type 0
 Law = (elements : Stack) (code : List Instr) (context : Transaction (List ℕ)) (verdicts : List verdict.Row)
-    → IsRedeemed elements code context → IsSmall elements code → spend_outcome context verdicts ≡ decided_by (run_end code elements)
+    → IsRedeemed elements code context → IsSmall elements code → spend_outcome context verdicts ≡ decided_by (run_end (world_of code context verdicts) code elements)
 
 spend_agrees : (law : Law) (reads : Reads) (contract : Contract Slot Ty) (rows : List Spanned) (h : AgreesByRun contract rows) (few : AreFew rows)
-    → (args : List (List ℕ)) (frame : Transaction Locking) (verdicts : List verdict.Row) (world : World) → length args ≡ length h.function.params → AllByRecursion IsElement args
+    → (args : List (List ℕ)) (frame : Transaction Locking) (verdicts : List verdict.Row) → length args ≡ length h.function.params → AllByRecursion IsElement args
     → length (spellings (instructions rows)) ≤ 520 → IsFrame frame
     → Agrees (map places rows) 0
     (spend_outcome (filled_context frame (locking_script (spellings (instructions rows))) (unlocking_script args (spellings (instructions rows)))) verdicts)
-    (source_outcome contract [] h.function args world)
-spend_agrees law reads contract rows h few args frame verdicts world count all size within =
+    (source_outcome contract [] h.function args
+    (world_of (instructions rows) (filled_context frame (locking_script (spellings (instructions rows))) (unlocking_script args (spellings (instructions rows)))) verdicts))
+spend_agrees law reads contract rows h few args frame verdicts count all size within =
     let code = instructions rows in
     let redeem = spellings code in
     let locking = locking_script redeem in
@@ -199,9 +217,14 @@ spend_agrees law reads contract rows h few args frame verdicts world count all s
     } in
     let opcodes = counted_few reads code h.spelled few.plain in
     let long = length-map rows (λ (r : Spanned). r.instr) in
-    let small : IsSmall args code = record { height = omega (arith, most, long, few.count); opcodes = omega (arith, opcodes, long, few.count) } in
+    let small : IsSmall args code = record {
+      few = omega (arith, most);
+      opcodes = omega (arith, opcodes, long, few.count);
+      keys = keys_known false code few.plain;
+    } in
+    let world = world_of code (filled_context frame locking unlocking) verdicts in
     subst (λ (o : MachineOutcome). Agrees (map places rows) 0 o (source_outcome contract [] h.function args world)) (sym (law args code (filled_context frame locking unlocking) verdicts redeemed small))
-    (agrees_at_end (map places rows) (source_outcome contract [] h.function args world) (run_end code args) (h.agrees args world count all))
+    (agrees_at_end (map places rows) (source_outcome contract [] h.function args world) (run_end world code args) (h.agrees args world count all))
 
 no_elements : (ctor : List (List ℕ)) → length ctor ≡ 0 → ctor ≡ []
 no_elements [] none = refl
@@ -212,11 +235,16 @@ only_one function chosen_one zero found = ap (λ (o : Option (Function Slot Ty))
 only_one function chosen_one (suc n) found = cc
 
 -- what is claimed of one spend
-abbrev Claim : Contract Slot Ty → List Spanned → ℕ → ℕ → List (List ℕ) → Function Slot Ty → List (List ℕ) → Transaction Locking → List verdict.Row → World → Type 0
-Claim contract rows functions chosen ctor function args frame verdicts world =
-    Agrees (map places rows) (length ctor)
-    (spend_outcome (filled_context frame (locking_script (redeem_script (instructions rows) ctor)) (spending_script functions chosen args (redeem_script (instructions rows) ctor))) verdicts)
-    (source_outcome contract ctor function args world)
+abbrev context_of : List Spanned → ℕ → ℕ → List (List ℕ) → List (List ℕ) → Transaction Locking → Transaction (List ℕ)
+context_of rows functions chosen ctor args frame =
+    let redeem = redeem_script (instructions rows) ctor in
+    filled_context frame (locking_script redeem) (spending_script functions chosen args redeem)
+
+abbrev Claim : Contract Slot Ty → List Spanned → ℕ → ℕ → List (List ℕ) → Function Slot Ty → List (List ℕ) → Transaction Locking → List verdict.Row → Type 0
+Claim contract rows functions chosen ctor function args frame verdicts =
+    let context = context_of rows functions chosen ctor args frame in
+    Agrees (map places rows) (length ctor) (spend_outcome context verdicts)
+    (source_outcome contract ctor function args (record { context = context; verdicts = verdicts; redeem = redeem_script (instructions rows) ctor }))
 
 pub spends_agree : (law : Law) (reads : Reads) (contract : Contract Slot Ty) (rows : List Spanned) (h : AgreesByRun contract rows) → AreFew rows → SpendsAgree contract (instructions rows) (map places rows)
 spends_agree law reads contract rows h few ctor chosen function args frame verdicts admits within table =
@@ -224,11 +252,10 @@ spends_agree law reads contract rows h few ctor chosen function args frame verdi
     let same = only_one h.function function chosen (ap (λ (fs : List (Function Slot Ty)). slice_get fs chosen) (sym h.only) ∙ admits.found) in
     let size : length (redeem_script (instructions rows) []) ≤ 520 = subst (λ (c : List (List ℕ)). length (redeem_script (instructions rows) c) ≤ 520) none admits.size in
     let count : length args ≡ length h.function.params = admits.arg_count ∙ ap (λ (f : Function Slot Ty). length f.params) (sym same) in
-    let world = spending_world contract (instructions rows) ctor chosen args frame verdicts in
-    let one = spend_agrees law reads contract rows h few args frame verdicts world count admits.arg_elements size within in
-    subst (λ (fs : List (Function Slot Ty)). Claim contract rows (length fs) chosen ctor function args frame verdicts world) (sym h.only)
-    (subst (λ (f : Function Slot Ty). Claim contract rows 1 chosen ctor f args frame verdicts world) same
-    (subst (λ (c : List (List ℕ)). Claim contract rows 1 chosen c h.function args frame verdicts world) (sym none) one))
+    let one = spend_agrees law reads contract rows h few args frame verdicts count admits.arg_elements size within in
+    subst (λ (fs : List (Function Slot Ty)). Claim contract rows (length fs) chosen ctor function args frame verdicts) (sym h.only)
+    (subst (λ (f : Function Slot Ty). Claim contract rows 1 chosen ctor f args frame verdicts) same
+    (subst (λ (c : List (List ℕ)). Claim contract rows 1 chosen c h.function args frame verdicts) (sym none) one))
 
 -- ---- the run alone decides
 
@@ -241,14 +268,14 @@ ends_decide rows (Failed span cause) end (inr (s, is, one, checks, place)) =
 -- what is claimed of one run
 abbrev RunClaim : Contract Slot Ty → List Instr → ℕ → ℕ → List (List ℕ) → Function Slot Ty → List (List ℕ) → World → Type 0
 RunClaim contract code functions chosen ctor function args world =
-    AgreesAlone (source_outcome contract ctor function args world) (run_outcome code (ctor ++ handed_in functions chosen args))
+    AgreesAlone (source_outcome contract ctor function args world) (run_outcome world code (ctor ++ handed_in functions chosen args))
 
 pub decides : (contract : Contract Slot Ty) (rows : List Spanned) → AgreesByRun contract rows → DecidesByRun contract (instructions rows)
 decides contract rows h ctor chosen function args world ctor_count found count ctor_elements elements =
     let none = no_elements ctor (ctor_count ∙ ap length h.alone) in
     let same = only_one h.function function chosen (ap (λ (fs : List (Function Slot Ty)). slice_get fs chosen) (sym h.only) ∙ found) in
     let args_count : length args ≡ length h.function.params = count ∙ ap (λ (f : Function Slot Ty). length f.params) (sym same) in
-    let one = ends_decide (map places rows) (source_outcome contract [] h.function args world) (run_end (instructions rows) args) (h.agrees args world args_count elements) in
+    let one = ends_decide (map places rows) (source_outcome contract [] h.function args world) (run_end world (instructions rows) args) (h.agrees args world args_count elements) in
     subst (λ (fs : List (Function Slot Ty)). RunClaim contract (instructions rows) (length fs) chosen ctor function args world) (sym h.only)
     (subst (λ (f : Function Slot Ty). RunClaim contract (instructions rows) 1 chosen ctor f args world) same
     (subst (λ (c : List (List ℕ)). RunClaim contract (instructions rows) 1 chosen c h.function args world) (sym none) one))

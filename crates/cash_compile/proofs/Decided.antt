@@ -19,7 +19,9 @@ use Rattle.source_meaning.specs.Meaning.{Env, value_of, checked, fails, with_val
 use Rattle.tx_context.specs.World.{World}
 use Rattle.script_codec.specs.declared.spans.Spanned.{Spanned}
 use Rattle.script_codec.specs.Spelling.{are_instructions}
-use Rattle.bch_vm.specs.Stack.{Stack}
+use Rattle.opcode_table.specs.Stack.{Stack}
+use Rattle.opcode_table.specs.Table.{rows as table}
+use Rattle.bch_vm.specs.Setting.{Setting, setting_in}
 use Rattle.bch_vm.specs.Script.{State, Progress, state, beginning, run, balanced, run_end, Failure}
 use Rattle.span_map.specs.declared.SpanRow.{SpanRow}
 use Rattle.span_map.specs.Places.{place_of}
@@ -43,20 +45,21 @@ holds_args params args slots count slot within = ap (λ env. env slot) (with_val
 abbrev nip : Span → Spanned
 nip statement = row (opcode 0x77) statement statement
 
-drops : (statement : Span) (v : List ℕ) (args : Stack) (at : Progress) → (end : Progress) × (run_rows (replicate (length args) (nip statement)) (state (v ∷ args) at) ≡ Ok (state (v ∷ []) end))
-drops statement v [] at = (at, refl)
-drops statement v (arg ∷ args) at = drops statement v args (next at)
+drops : (setting : Setting) (statement : Span) (v : List ℕ) (args : Stack) (at : Progress) → (end : Progress) × (run_rows setting (replicate (length args) (nip statement)) (state (v ∷ args) at) ≡ Ok (state (v ∷ []) end))
+unfolding table
+drops setting statement v [] at = (at, refl)
+drops setting statement v (arg ∷ args) at = drops setting statement v args (next (opcode 0x77) at)
 
 -- the rows of a function: of the value, and then what drops its parameters
 abbrev whole : Span → ℕ → List Spanned → List Spanned
 whole statement params rows = rows ++ replicate params (nip statement)
 
-all_left : (statement : Span) (args : Stack) (rows : List Spanned) (r : Result (List ℕ) source.Failure) → Leaves args r (run_rows rows (state args beginning)) → Leaves [] r (run_rows (whole statement (length args) rows) (state args beginning))
-all_left statement args rows (Ok v) (at, is) =
-    let dropped = drops statement v args at in
-    (dropped.0, rows_in_turn rows (replicate (length args) (nip statement)) (state args beginning) ∙ ap (λ n. n >>= run_rows (replicate (length args) (nip statement))) is ∙ dropped.1)
-all_left statement args rows (Err failure) (r, is, place) =
-    (r, rows_in_turn rows (replicate (length args) (nip statement)) (state args beginning) ∙ ap (λ n. n >>= run_rows (replicate (length args) (nip statement))) is, place)
+all_left : (setting : Setting) (statement : Span) (args : Stack) (rows : List Spanned) (r : Result (List ℕ) source.Failure) → Leaves args r (run_rows setting rows (state args beginning)) → Leaves [] r (run_rows setting (whole statement (length args) rows) (state args beginning))
+all_left setting statement args rows (Ok v) (at, is) =
+    let dropped = drops setting statement v args at in
+    (dropped.0, rows_in_turn setting rows (replicate (length args) (nip statement)) (state args beginning) ∙ ap (λ n. n >>= run_rows setting (replicate (length args) (nip statement))) is ∙ dropped.1)
+all_left setting statement args rows (Err failure) (r, is, place) =
+    (r, rows_in_turn setting rows (replicate (length args) (nip statement)) (state args beginning) ∙ ap (λ n. n >>= run_rows setting (replicate (length args) (nip statement))) is, place)
 
 -- ---- every row belongs to the statement
 
@@ -188,12 +191,13 @@ decided contract h rows all follows is belong some = record {
   few = h.few;
   spelled = all_spelled h.statement.span all belong;
   agrees = λ args world count elements.
+      let setting = setting_in world (instructions all) in
       let env = with_values h.function.params args no_values in
-      let left = all_left h.statement.span args rows (value_of h.value env) (follows.runs [] args env beginning refl count (holds_args h.function.params args h.slots count)) in
+      let left = all_left setting h.statement.span args rows (value_of h.value env) (follows.runs setting [] args env beginning refl count (holds_args h.function.params args h.slots count)) in
       let same : whole h.statement.span (length args) rows ≡ all = ap (λ (n : ℕ). whole h.statement.span n rows) count ∙ sym is in
-      let left' = subst (λ (l : List Spanned). Leaves [] (value_of h.value env) (run_rows l (state args beginning))) same left in
-      subst (λ (o : SourceOutcome). EndsAs (map places all) o (run_end (instructions all) args)) (sym (outcome_is contract h args world))
-      (ends h.statement.span all args env (value_of h.value env) (run_rows all (state args beginning)) (run (instructions all) (state args beginning)) belong
-      (λ s e. let within = last_within all s (length all - 1) (state args beginning) e (omega arith) (omega (arith, some)) in omega (arith, within, some))
-      left' (located all (state args beginning)));
+      let left' = subst (λ (l : List Spanned). Leaves [] (value_of h.value env) (run_rows setting l (state args beginning))) same left in
+      subst (λ (o : SourceOutcome). EndsAs (map places all) o (run_end world (instructions all) args)) (sym (outcome_is contract h args world))
+      (ends h.statement.span all args env (value_of h.value env) (run_rows setting all (state args beginning)) (run setting (instructions all) (state args beginning)) belong
+      (λ s e. let within = last_within setting all s (length all - 1) (state args beginning) e (omega arith) (omega (arith, some)) in omega (arith, within, some))
+      left' (located setting all (state args beginning)));
 }

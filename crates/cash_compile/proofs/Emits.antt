@@ -26,9 +26,11 @@ use Rattle.source_meaning.specs.declared.outcome.Failure as source
 use Rattle.script_codec.specs.declared.instr.Instr.{Instr}
 use Rattle.script_codec.specs.declared.instr.Instr.TheVariants.{Push, Do}
 use Rattle.script_codec.specs.declared.spans.Spanned.{Spanned}
-use Rattle.bch_vm.specs.Stack.{Stack, shared}
-use Rattle.bch_vm.specs.Opcode.{copied_at, element_or_underflow, picked}
-use Rattle.bch_vm.specs.Script.{State, Progress, state, passed}
+use Rattle.opcode_table.specs.Stack.{Stack, shared}
+use Rattle.opcode_table.specs.Deeds.{copied, at_index, element_or_underflow, picked}
+use Rattle.opcode_table.specs.Table.{rows as table}
+use Rattle.bch_vm.specs.Setting.{Setting}
+use Rattle.bch_vm.specs.Script.{State, Progress, progress_after, state, passed}
 use Rattle.bch_vm.specs.Board.{board}
 use Rattle.cash_compile.specs.declared.emission.Emitter.{Emitter}
 use Rattle.std.specs.Prelude.{◌&&◌}
@@ -42,8 +44,8 @@ abbrev pub opcode : ℕ → Instr
 opcode n = Do (record { 0 = n })
 
 -- after an executed instruction
-abbrev pub next : Progress → Progress
-next p = record { at = p.at + 1; last = p.at }
+abbrev pub next : Instr → Progress → Progress
+next instr p = progress_after instr [] p
 
 -- ---- one more row
 
@@ -57,8 +59,10 @@ row_put (first ∷ rows) new instr doing statement is e = ap (are_rows_of statem
 -- ---- a literal
 
 follows_literal : (params depth : ℕ) (e : ArrayVec ℕ) (doing checking : Span) (value : Value) → ((env : Env) → value env ≡ Ok e.items) → Follows params depth (row (Push e) doing checking ∷ []) value
+unfolding table
 follows_literal params depth e doing checking value is = record {
-  runs = λ operands args env at d a h. subst (λ r. Leaves (operands ++ args) r (Ok (state (e.items ∷ operands ++ args) (next at)))) (sym (is env)) (next at, refl);
+  runs = λ setting operands args env at d a h.
+      subst (λ r. Leaves (operands ++ args) r (Ok (state (e.items ∷ operands ++ args) (next (Push e) at)))) (sym (is env)) (next (Push e) at, refl);
 }
 
 pub emits_literal : (old new : Emitter) (e : ArrayVec ℕ) (n : ℤ) (depth digits unit : ℕ) (span : Span) → n ≡ pos (digits * unit) → e.items ≡ minimal_bytes n → new.rows.items ≡ old.rows.items ++ row (Push e) span old.statement ∷ [] → new.params ≡ old.params → new.statement ≡ old.statement → Emits old new depth (kind_value (ExprKind-F.Int digits unit) span)
@@ -75,7 +79,7 @@ emits_literal old new e n depth digits unit span is bytes grown same statement =
 picked_at : (index : List ℕ) (stack : Stack) (n : ℕ) (x : List ℕ) → operand_number index ≡ Ok (pos n) → slice_get stack n ≡ Some x → picked (index ∷ stack) ≡ Ok (x ∷ stack)
 picked_at index [] n x read found = let within : n < 0 = slice_get_within [] n x found in absurd (omega (arith, within))
 picked_at index (below ∷ rest) n x read found =
-    ap (λ r. ◌>>=◌ {A = ℤ × Stack} (shared r >>= λ k. Ok (k, below ∷ rest)) (λ t. copied_at t.0 t.1)) read
+    ap (λ r. ◌>>=◌ {A = ℤ × Stack} (shared r >>= λ k. Ok (k, below ∷ rest)) (λ t. at_index copied t.0 t.1)) read
     ∙ ap (λ o. element_or_underflow o >>= λ e. Ok (e ∷ below ∷ rest)) found
 
 number_read : (n : ℕ) (index : List ℕ) → n < 2 ^ 63 → index ≡ minimal_bytes (pos n) → operand_number index ≡ Ok (pos n)
@@ -89,11 +93,13 @@ arg_found operands args depth n d within =
     ∙ ap Some (get_or-append-add operands args n [])
 
 follows_name : (params depth : ℕ) (slot : Slot) (e : ArrayVec ℕ) (span checking : Span) → slot.0 < params → depth + slot.0 < 2 ^ 63 → e.items ≡ minimal_bytes (pos (depth + slot.0)) → Follows params depth (row (Push e) span checking ∷ row (opcode 0x79) span checking ∷ []) (kind_value (ExprKind-F.Name slot) span)
+unfolding table
 follows_name params depth slot e span checking known small bytes = record {
-  runs = λ operands args env at d a holds.
+  runs = λ setting operands args env at d a holds.
+      let end = next (opcode 0x79) (next (Push e) at) in
       let within : slot.0 < length args = omega (arith, known, a) in
       let found = arg_found operands args depth slot.0 d within ∙ ap Some (sym (holds slot within)) in
-      (next (next at), ap (λ r. failed_at (row (opcode 0x79) span checking) (passed (at.at + 1) (next (next at)) (r >>= λ stack. Ok (board stack [] []))) >>= run_rows []) (picked_at e.items (operands ++ args) (depth + slot.0) (env slot) (number_read (depth + slot.0) e.items small bytes) found));
+      (end, ap (λ r. failed_at (row (opcode 0x79) span checking) (passed (at.at + 1) end (r >>= λ stack. Ok (board stack [] [] 0))) >>= run_rows setting []) (picked_at e.items (operands ++ args) (depth + slot.0) (env slot) (number_read (depth + slot.0) e.items small bytes) found));
 }
 
 pub emits_name : (old mid new : Emitter) (e : ArrayVec ℕ) (n : ℤ) (depth : ℕ) (slot : Slot) (span : Span) → slot.0 < old.params → depth + slot.0 < 2 ^ 63 → n ≡ pos (depth + slot.0) → e.items ≡ minimal_bytes n → mid.rows.items ≡ old.rows.items ++ row (Push e) span old.statement ∷ [] → mid.params ≡ old.params → mid.statement ≡ old.statement → new.rows.items ≡ mid.rows.items ++ row (opcode 0x79) span mid.statement ∷ [] → new.params ≡ mid.params → new.statement ≡ mid.statement → Emits old new depth (kind_value (ExprKind-F.Name slot) span)
@@ -108,19 +114,19 @@ emits_name old mid new e n depth slot span known small is bytes pushed same kept
 -- ---- an operator with two sides
 
 -- what follows the left side
-after_part : (below : Stack) (rows : List Spanned) (r : Result (List ℕ) source.Failure) (next : Result State RowFailure) (f : List ℕ → Result (List ℕ) source.Failure) (under : Stack) → Leaves below r next → ((x : List ℕ) (at : Progress) → Leaves under (f x) (run_rows rows (state (x ∷ below) at))) → Leaves under (r >>= f) (next >>= run_rows rows)
-after_part below rows (Ok x) next f under (at, is) then = subst (λ n. Leaves under (f x) (n >>= run_rows rows)) (sym is) (then x at)
-after_part below rows (Err failure) next f under (r, is, place) then = (r, ap (λ n. n >>= run_rows rows) is, place)
+after_part : (setting : Setting) (below : Stack) (rows : List Spanned) (r : Result (List ℕ) source.Failure) (next : Result State RowFailure) (f : List ℕ → Result (List ℕ) source.Failure) (under : Stack) → Leaves below r next → ((x : List ℕ) (at : Progress) → Leaves under (f x) (run_rows setting rows (state (x ∷ below) at))) → Leaves under (r >>= f) (next >>= run_rows setting rows)
+after_part setting below rows (Ok x) next f under (at, is) then = subst (λ n. Leaves under (f x) (n >>= run_rows setting rows)) (sym is) (then x at)
+after_part setting below rows (Err failure) next f under (r, is, place) then = (r, ap (λ n. n >>= run_rows setting rows) is, place)
 
 -- a cause other than a false check is told at the operation
 told_at_operation : (r : Spanned) (cause : Cause) → (cause ≡ CheckFailed → ⊥) → place_in r.doing r.checking (Shared cause) ≡ r.doing
 told_at_operation r CheckFailed other = absurd (other refl)
 told_at_operation r _ other = refl
 
-compared : (below : Stack) (at : Progress) (span checking : Span) (r : Result (List ℕ) Cause) → (r ≡ Err CheckFailed → ⊥)
-    → Leaves below (at_span span r) (failed_at (row (opcode 0x9c) span checking) (passed at.at (next at) ((shared r >>= λ e. Ok (e ∷ below)) >>= λ stack. Ok (board stack [] []))) >>= run_rows [])
-compared below at span checking (Ok e) other = (next at, refl)
-compared below at span checking (Err cause) other =
+compared : (setting : Setting) (below : Stack) (at : Progress) (span checking : Span) (r : Result (List ℕ) Cause) → (r ≡ Err CheckFailed → ⊥)
+    → Leaves below (at_span span r) (failed_at (row (opcode 0x9c) span checking) (passed at.at (next (opcode 0x9c) at) (((shared r >>= λ e. Ok (e ∷ [])) >>= λ es. Ok (es ++ below)) >>= λ stack. Ok (board stack [] [] 0))) >>= run_rows setting [])
+compared setting below at span checking (Ok e) other = (next (opcode 0x9c) at, refl)
+compared setting below at span checking (Err cause) other =
     (row (opcode 0x9c) span checking, refl, told_at_operation (row (opcode 0x9c) span checking) cause (λ is. other (ap Err is)))
 
 -- a comparison checks nothing
@@ -149,17 +155,18 @@ equal_checks_nothing x y is =
     numbers_compared (operand_number x) (operand_number y) int_eq (number_is_no_check (number_of x)) (number_is_no_check (number_of y)) is
 
 follows_equal : (params depth : ℕ) (a b : List Spanned) (left right : Value) (span checking : Span) → Follows params depth a left → Follows params (depth + 1) b right → Follows params depth (a ++ (b ++ row (opcode 0x9c) span checking ∷ [])) (kind_value (ExprKind-F.Binary Equal left right) span)
+unfolding table
 follows_equal params depth a b left right span checking first second = record {
-  runs = λ operands args env at d n holds.
+  runs = λ setting operands args env at d n holds.
       let below = operands ++ args in
       let compares = row (opcode 0x9c) span checking ∷ [] in
-      let last = λ (x y : List ℕ) (k : Progress). compared below k span checking (result2 NumEqual x y) (equal_checks_nothing x y) in
+      let last = λ (x y : List ℕ) (k : Progress). compared setting below k span checking (result2 NumEqual x y) (equal_checks_nothing x y) in
       let further = λ (x : List ℕ) (k : Progress).
       let d' : length (x ∷ operands) ≡ depth + 1 = omega (arith, d) in
-      subst (λ r. Leaves below (right env >>= λ y. at_span span (result2 NumEqual x y)) r) (sym (rows_in_turn b compares (state (x ∷ below) k)))
-      (after_part (x ∷ below) compares (right env) (run_rows b (state (x ∷ below) k)) (λ y. at_span span (result2 NumEqual x y)) below (second.runs (x ∷ operands) args env k d' n holds) (last x)) in
-      subst (λ r. Leaves below (kind_value (ExprKind-F.Binary Equal left right) span env) r) (sym (rows_in_turn a (b ++ compares) (state below at)))
-      (after_part below (b ++ compares) (left env) (run_rows a (state below at)) (λ x. right env >>= λ y. at_span span (result2 NumEqual x y)) below (first.runs operands args env at d n holds) further);
+      subst (λ r. Leaves below (right env >>= λ y. at_span span (result2 NumEqual x y)) r) (sym (rows_in_turn setting b compares (state (x ∷ below) k)))
+      (after_part setting (x ∷ below) compares (right env) (run_rows setting b (state (x ∷ below) k)) (λ y. at_span span (result2 NumEqual x y)) below (second.runs setting (x ∷ operands) args env k d' n holds) (last x)) in
+      subst (λ r. Leaves below (kind_value (ExprKind-F.Binary Equal left right) span env) r) (sym (rows_in_turn setting a (b ++ compares) (state below at)))
+      (after_part setting below (b ++ compares) (left env) (run_rows setting a (state below at)) (λ x. right env >>= λ y. at_span span (result2 NumEqual x y)) below (first.runs setting operands args env at d n holds) further);
 }
 
 emits_equal : (old mid last new : Emitter) (depth : ℕ) (left right : Value) (span : Span) → Emits old mid depth left → Emits mid last (depth + 1) right → new.rows.items ≡ last.rows.items ++ row (opcode 0x9c) span last.statement ∷ [] → new.params ≡ last.params → new.statement ≡ last.statement → Emits old new depth (kind_value (ExprKind-F.Binary Equal left right) span)

@@ -5,6 +5,8 @@ use Rattle.std.proofs.lemmas.Bool.{false≢true}
 use Rattle.cash_base.specs.declared.fault.MachineCause.{MachineCause}
 use Rattle.cash_base.specs.Failing.{◌>>=◌}
 use Rattle.script_codec.specs.declared.spans.Spanned.{Spanned}
+use Rattle.script_codec.specs.Spelling.{spelling}
+use Rattle.bch_vm.specs.Setting.{Setting, around}
 use Rattle.bch_vm.specs.Board.{Board, board_after, is_effective}
 use Rattle.bch_vm.specs.Script.{State, state_after, passed, progress_after, run, Failure}
 use Rattle.cash_compile.specs.Rows.{RowFailure, failed_at, run_rows, instructions}
@@ -16,9 +18,10 @@ then_in_turn (Ok a) f g h e = e a
 then_in_turn (Err failure) f g h e = refl
 
 -- the rows of both are run one after the other
-pub rows_in_turn : (first second : List Spanned) (s : State) → run_rows (first ++ second) s ≡ (run_rows first s >>= run_rows second)
-rows_in_turn [] second s = refl
-rows_in_turn (r ∷ first) second s = then_in_turn (failed_at r (state_after r.instr s)) (run_rows first) (run_rows second) (run_rows (first ++ second)) (rows_in_turn first second)
+pub rows_in_turn : (setting : Setting) (first second : List Spanned) (s : State) → run_rows setting (first ++ second) s ≡ (run_rows setting first s >>= run_rows setting second)
+rows_in_turn setting [] second s = refl
+rows_in_turn setting (r ∷ first) second s =
+    then_in_turn (failed_at r (state_after setting r.instr s)) (run_rows setting first) (run_rows setting second) (run_rows setting (first ++ second)) (rows_in_turn setting first second)
 
 -- ---- the index of the row that fails
 
@@ -34,19 +37,22 @@ after_row r rows at (Err f) outcome (k, found, is) =
     let index : at + 1 + k ≡ at + suc k = omega arith in
     (suc k, found, is ∙ ap (λ (n : ℕ). Err (record { at = n; cause = f.cause })) index)
 
-first_row : (r : Spanned) (rows : List Spanned) (s : State) (after : Result Board MachineCause)
-    → ((b : Board) → Located rows (s.progress.at + 1) (run_rows rows (record { board = b; progress = progress_after r.instr s.board.conditions s.progress })) (run (instructions rows) (record { board = b; progress = progress_after r.instr s.board.conditions s.progress })))
+first_row : (setting : Setting) (r : Spanned) (rows : List Spanned) (s : State) (after : Result Board MachineCause)
+    → ((b : Board) → Located rows (s.progress.at + 1) (run_rows setting rows (record { board = b; progress = progress_after r.instr s.board.conditions s.progress })) (run setting (instructions rows) (record { board = b; progress = progress_after r.instr s.board.conditions s.progress })))
     → Located (r ∷ rows) s.progress.at
-    (failed_at r (passed s.progress.at (progress_after r.instr s.board.conditions s.progress) after) >>= run_rows rows)
-    (passed s.progress.at (progress_after r.instr s.board.conditions s.progress) after >>= run (instructions rows))
-first_row r rows s (Ok b) more = after_row r rows s.progress.at _ _ (more b)
-first_row r rows s (Err cause) more =
+    (failed_at r (passed s.progress.at (progress_after r.instr s.board.conditions s.progress) after) >>= run_rows setting rows)
+    (passed s.progress.at (progress_after r.instr s.board.conditions s.progress) after >>= run setting (instructions rows))
+first_row setting r rows s (Ok b) more = after_row r rows s.progress.at _ _ (more b)
+first_row setting r rows s (Err cause) more =
     let index : s.progress.at ≡ s.progress.at + 0 = omega arith in
     (0, refl, ap (λ (n : ℕ). Err (record { at = n; cause = cause })) index)
 
-pub located : (rows : List Spanned) (s : State) → Located rows s.progress.at (run_rows rows s) (run (instructions rows) s)
-located [] s = refl
-located (r ∷ rows) s = first_row r rows s (board_after r.instr s.board) (λ b. located rows _)
+abbrev step : Setting → Spanned → State → Result Board MachineCause
+step setting r s = board_after (around setting (s.progress.place + length (spelling r.instr)) 20) r.instr s.board
+
+pub located : (setting : Setting) (rows : List Spanned) (s : State) → Located rows s.progress.at (run_rows setting rows s) (run setting (instructions rows) s)
+located setting [] s = refl
+located setting (r ∷ rows) s = first_row setting r rows s (step setting r s) (λ b. located setting rows _)
 
 -- ---- the last row that was executed
 
@@ -67,19 +73,19 @@ no_end : (r : Spanned) (cause : MachineCause) (at : ℕ) (more : State → Resul
 no_end r cause at more t e = false≢true (ap is_end e)
 
 -- from each next state
-abbrev Within : List Spanned → State → ℕ → State → Type 0
-Within rows t bound s = run_rows rows s ≡ Ok t → s.progress.last ≤ bound → s.progress.at + length rows ≤ bound + 1 → t.progress.last ≤ bound
+abbrev Within : Setting → List Spanned → State → ℕ → State → Type 0
+Within setting rows t bound s = run_rows setting rows s ≡ Ok t → s.progress.last ≤ bound → s.progress.at + length rows ≤ bound + 1 → t.progress.last ≤ bound
 
-last_step : (r : Spanned) (rows : List Spanned) (s t : State) (bound : ℕ) (after : Result Board MachineCause) → ((n : State) → Within rows t bound n)
-    → (failed_at r (passed s.progress.at (progress_after r.instr s.board.conditions s.progress) after) >>= run_rows rows) ≡ Ok t
+last_step : (setting : Setting) (r : Spanned) (rows : List Spanned) (s t : State) (bound : ℕ) (after : Result Board MachineCause) → ((n : State) → Within setting rows t bound n)
+    → (failed_at r (passed s.progress.at (progress_after r.instr s.board.conditions s.progress) after) >>= run_rows setting rows) ≡ Ok t
     → s.progress.last ≤ bound → s.progress.at + length (r ∷ rows) ≤ bound + 1 → t.progress.last ≤ bound
-last_step r rows s t bound (Ok b) more e last room =
+last_step setting r rows s t bound (Ok b) more e last room =
     let at : s.progress.at ≤ bound = omega (arith, room) in
     more (record { board = b; progress = progress_after r.instr s.board.conditions s.progress }) e
     (bounded (is_effective r.instr s.board.conditions) s.progress.at s.progress.last bound at last) (omega (arith, room))
-last_step r rows s t bound (Err cause) more e last room = absurd (no_end r cause s.progress.at (run_rows rows) t e)
+last_step setting r rows s t bound (Err cause) more e last room = absurd (no_end r cause s.progress.at (run_rows setting rows) t e)
 
 -- it is one of the rows
-pub last_within : (rows : List Spanned) (t : State) (bound : ℕ) (s : State) → Within rows t bound s
-last_within [] t bound s e last room = subst (λ (u : State). u.progress.last ≤ bound) (ap (state_or s) e) last
-last_within (r ∷ rows) t bound s e last room = last_step r rows s t bound (board_after r.instr s.board) (last_within rows t bound) e last room
+pub last_within : (setting : Setting) (rows : List Spanned) (t : State) (bound : ℕ) (s : State) → Within setting rows t bound s
+last_within setting [] t bound s e last room = subst (λ (u : State). u.progress.last ≤ bound) (ap (state_or s) e) last
+last_within setting (r ∷ rows) t bound s e last room = last_step setting r rows s t bound (step setting r s) (last_within setting rows t bound) e last room

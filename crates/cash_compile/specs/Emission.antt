@@ -18,7 +18,8 @@ use Rattle.source_meaning.specs.declared.outcome.Failure as source
 use Rattle.source_meaning.specs.Meaning.{Env, Value}
 use Rattle.source_meaning.specs.Runnable.{HaveSlotsFrom, IsRunnable, nodes}
 use Rattle.script_codec.specs.declared.spans.Spanned.{Spanned}
-use Rattle.bch_vm.specs.Stack.{Stack}
+use Rattle.opcode_table.specs.Stack.{Stack}
+use Rattle.bch_vm.specs.Setting.{Setting}
 use Rattle.bch_vm.specs.Script.{State, Progress, state}
 use Rattle.cash_compile.specs.declared.emission.Emitter.{Emitter}
 use Rattle.span_map.specs.declared.SpanRow.{SpanRow}
@@ -99,11 +100,11 @@ Leaves below (Err failure) next =
     × (next ≡ Err (record { row = r; cause = Shared failure.cause }))
     × (place_in r.doing r.checking (Shared failure.cause) ≡ failure.span)
 
--- above so many operands, and below them the elements of the parameters, the rows leave the value
+-- above so many operands, and below them the elements of the parameters, the rows leave the value, whatever they may ask
 pub record Follows (params depth : ℕ) (rows : List Spanned) (value : Value) : Type 0 where
-  pub runs : (operands args : List (List ℕ)) (env : Env) (at : Progress) → length operands ≡ depth → length args ≡ params
+  pub runs : (setting : Setting) (operands args : List (List ℕ)) (env : Env) (at : Progress) → length operands ≡ depth → length args ≡ params
       → HoldsArgs env args
-      → Leaves (operands ++ args) (value env) (run_rows rows (state (operands ++ args) at))
+      → Leaves (operands ++ args) (value env) (run_rows setting rows (state (operands ++ args) at))
 
 -- what an emitter added leaves the value
 pub record Emits (old new : Emitter) (depth : ℕ) (value : Value) : Type 0 where

@@ -9,6 +9,7 @@ use Rattle.script_codec.specs.declared.spans.Spanned.{Spanned}
 use Rattle.script_codec.specs.declared.instr.Instr.TheVariants.{Push, Do}
 use Rattle.script_codec.specs.Spelling.{is_instruction, spellings}
 use Rattle.script_codec.specs.Counting.{takes_keys}
+use Rattle.bch_vm.specs.Setting.{Setting}
 use Rattle.bch_vm.specs.Script.{State, state_after, Failure}
 use Rattle.span_map.specs.declared.SpanRow.{SpanRow}
 
@@ -69,8 +70,8 @@ abbrev pub failed_at : Spanned → Result State Failure → Result State RowFail
 failed_at r (Ok s) = Ok s
 failed_at r (Err failure) = Err (record { row = r; cause = failure.cause })
 
-abbrev pub run_rows : List Spanned → State → Result State RowFailure
-run_rows [] s = Ok s
-run_rows (r ∷ rows) s = do
-  next ← failed_at r (state_after r.instr s)
-  run_rows rows next
+abbrev pub run_rows : Setting → List Spanned → State → Result State RowFailure
+run_rows setting [] s = Ok s
+run_rows setting (r ∷ rows) s = do
+  next ← failed_at r (state_after setting r.instr s)
+  run_rows setting rows next

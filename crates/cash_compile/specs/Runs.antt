@@ -18,7 +18,7 @@ use Rattle.tx_context.specs.World.{World}
 use Rattle.script_codec.specs.declared.instr.Instr.{Instr}
 use Rattle.script_codec.specs.declared.spans.Spanned.{Spanned}
 use Rattle.script_codec.specs.Spelling.{are_instructions}
-use Rattle.bch_vm.specs.Stack.{Stack}
+use Rattle.opcode_table.specs.Stack.{Stack}
 use Rattle.bch_vm.specs.Script.{State, run_end, run_outcome, Failure}
 use Rattle.span_map.specs.declared.SpanRow.{SpanRow}
 use Rattle.span_map.specs.Places.{place_of}
@@ -48,7 +48,7 @@ DecidesByRun contract code =
     → length ctor ≡ length contract.params → slice_get contract.functions chosen ≡ Some function
     → length args ≡ length function.params → AllByRecursion IsElement ctor → AllByRecursion IsElement args
     → AgreesAlone (source_outcome contract ctor function args world)
-    (run_outcome code (ctor ++ handed_in (length contract.functions) chosen args))
+    (run_outcome world code (ctor ++ handed_in (length contract.functions) chosen args))
 
 -- ---- with places
 
@@ -82,4 +82,4 @@ pub record AgreesByRun (contract : Contract Slot Ty) (rows : List Spanned) : Typ
   pub few : length function.params ≤ 16
   pub spelled : IsTrue (are_instructions (instructions rows))
   pub agrees : (args : List (List ℕ)) (world : World) → length args ≡ length function.params → AllByRecursion IsElement args
-      → EndsAs (map places rows) (source_outcome contract [] function args world) (run_end (instructions rows) args)
+      → EndsAs (map places rows) (source_outcome contract [] function args world) (run_end world (instructions rows) args)

@@ -23,7 +23,6 @@ use crate::form::is_equality;
 use crate::reading::typed_contract_of;
 use crate::refusal::Refusal;
 use artifact_json::Program;
-use bch_vm::laws::spend_is_decided;
 use cash_base::Memory;
 use cash_lexer::words_have_texts;
 use cash_names::one_answer;
@@ -31,6 +30,7 @@ use cash_parser::{names_have_texts, one_tree};
 use cash_tree::TypedContract;
 use script_codec::Spanned;
 use script_codec::laws::{meaning_of_spelled, reading_after_encoded, reading_in_turn};
+use spend_laws::laws::spend_is_decided;
 use std::alloc::Global;
 use type_check::judged_once;
 

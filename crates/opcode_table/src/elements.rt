@@ -303,7 +303,8 @@ impl Elements {
         let Some(a) = self.items.pop() else {
             return Err(MachineCause::Underflow);
         };
-        if truth(a.as_slice()) {
+        let is_true = truth(a.as_slice());
+        if is_true {
             self.push(copy_of(a.as_slice()));
             self.push(a);
             Ok(())

@@ -1,6 +1,0 @@
-use Rattle.bch_vm.proofs.Decided.{code_decides}
-use Rattle.bch_vm.proofs.laws.redeemed_code_decides.Goals as goal
-
-pub returns : goal.returns
-returns c =
-    code_decides (record { nothing = c.reading_in_turn.ensures.end; code = c.reading_after_encoded.ensures; meaning = c.meaning_of_spelled.ensures })

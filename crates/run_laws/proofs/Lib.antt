@@ -1,0 +1,6 @@
+mod Nesting
+mod Outer
+mod Arms
+mod Matched
+mod Unexecuted
+mod Alike

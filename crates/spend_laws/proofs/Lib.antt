@@ -1,0 +1,13 @@
+pub mod Endings
+pub mod Checked
+pub mod Limited
+pub mod Spelled
+pub mod CodeRuns
+pub mod Locking
+pub mod Spends
+pub mod Decided
+pub mod Modest
+pub mod CodeStays
+pub mod Accepted
+pub mod Roomy
+pub mod Heights
