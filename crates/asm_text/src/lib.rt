@@ -1,7 +1,7 @@
 //! Assembly text: code as words, such as `OP_DUP OP_HASH160 1122 OP_EQUALVERIFY`, written and read.
 #![tactic(auto)]
 
-pub mod cutting;
+mod cutting;
 pub mod fault;
 pub mod laws;
 pub mod reading;

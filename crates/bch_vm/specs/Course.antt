@@ -1,5 +1,6 @@
 -- What a spend goes through: a row for each instruction that is passed, and how it ends.
 use Rattle.std.specs.Prelude.{ℕ, Bool, List, [], ◌∷◌}
+use Rattle.std.specs.List.{filter}
 use Rattle.bch_vm.specs.declared.outcome.MachineOutcome.{MachineOutcome}
 use Rattle.bch_vm.specs.declared.outcome.Which.{Which}
 use Rattle.bch_vm.specs.Stack.{Stack}
@@ -43,3 +44,7 @@ abbrev pub rows_of : {A : Type 0} → Course A → List Row
 rows_of (Passes row rest) = row ∷ rows_of rest
 rows_of (Gives a) = []
 rows_of (Stops outcome) = []
+
+-- the instructions that are executed, in order, each with the stack after it
+abbrev pub executed_rows : {A : Type 0} → Course A → List Row
+executed_rows course = filter (λ row. row.executed) (rows_of course)

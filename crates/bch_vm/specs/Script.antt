@@ -111,6 +111,12 @@ executed_in setting (instr ∷ code) (Ok s) =
     ++ executed_in setting code (state_after setting instr s)
 executed_in setting code (Err failure) = []
 
+-- so the instructions that a run of both executes are those of the first, and then those that the second executes after it
+abbrev pub ExecutesInTurn : Setting → List Instr → List Instr → Type 0
+ExecutesInTurn setting first second =
+    (s : State) → executed_in setting (first ++ second) (Ok s)
+    ≡ executed_in setting first (Ok s) ++ executed_in setting second (run setting first s)
+
 -- ---- an instruction of a script, with all checks
 
 -- a state, and how many opcodes were counted

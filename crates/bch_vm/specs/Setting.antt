@@ -13,7 +13,8 @@ pub record Setting : Type 0 where
   pub verdicts : List verdict.Row
   pub active : ℕ → List ℕ
 
--- the active bytecode is all of it where no separator was executed, and otherwise what stands in these bytes after the separator
+-- the active bytecode is all of it where no separator was executed, and otherwise what stands in these bytes after the
+-- separator
 abbrev pub active_in : List ℕ → List ℕ → ℕ → List ℕ
 active_in all bytes separator = if separator == 0 then all else drop separator bytes
 

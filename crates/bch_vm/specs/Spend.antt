@@ -23,14 +23,14 @@ abbrev pub told : {A : Type 0} → Which → Result A Failure → Course A
 told which (Ok a) = Gives a
 told which (Err failure) = Stops (Refused which failure.at failure.cause)
 
-abbrev pub executed_in : Piece → List Bool → Bool
-executed_in (Whole raw) conditions = is_executed (instruction raw) conditions
-executed_in CutOff conditions = false
+abbrev pub piece_executed : Piece → List Bool → Bool
+piece_executed (Whole raw) conditions = is_executed (instruction raw) conditions
+piece_executed CutOff conditions = false
 
 -- an instruction that was passed has its row, and one that fails ends the spend
 abbrev pub step_course : Which → Piece → Counted → Result Counted MachineCause → Course Counted
 step_course which piece s (Ok next) =
-    Passes (row_of which s.state.progress.at (executed_in piece s.state.board.conditions) next.state.board.stack) (Gives next)
+    Passes (row_of which s.state.progress.at (piece_executed piece s.state.board.conditions) next.state.board.stack) (Gives next)
 step_course which piece s (Err cause) = Stops (Refused which s.state.progress.at cause)
 
 -- the instructions from the left, and at the end no condition may be open
@@ -84,7 +84,8 @@ clean which last _ = Refused which last NotClean
 -- HASH160, a push of 20 bytes, EQUAL: the pattern of BIP 16
 abbrev pub is_p2sh : List ℕ → Bool
 is_p2sh script =
-    (length script == 23) && ((slice_index script 0 == 0xa9) && ((slice_index script 1 == 0x14) && (slice_index script 22 == 0x87)))
+    (length script == 23)
+    && ((slice_index script 0 == 0xa9) && ((slice_index script 1 == 0x14) && (slice_index script 22 == 0x87)))
 
 abbrev pub false_cause : List ℕ → MachineCause
 false_cause locking = if is_p2sh locking then HashDiffers else EndFalse
@@ -102,11 +103,15 @@ redeemed context verdicts last (redeem ∷ rest) = do
   end ← script_course context verdicts Redeem redeem rest
   after_redeem end
 
+-- a spend whose locking script has left this state without a redeem script
+abbrev pub locked : State → Course MachineOutcome
+locked end = Stops (clean Locking end.progress.last end.board.stack)
+
 -- After a locking script of that pattern the stack that the unlocking script left is taken again.
 abbrev pub after_locking : Transaction (List ℕ) → List verdict.Row → List ℕ → List ℕ → State → Course MachineOutcome
 after_locking context verdicts unlocking locking end = do
   top_check Locking (false_cause locking) end.progress.last end.board.stack
-  if is_p2sh locking then redeemed context verdicts end.progress.last (stack_left context verdicts unlocking) else Stops (clean Locking end.progress.last end.board.stack)
+  if is_p2sh locking then redeemed context verdicts end.progress.last (stack_left context verdicts unlocking) else locked end
 
 abbrev pub after_unlocking : Transaction (List ℕ) → List verdict.Row → List ℕ → List ℕ → State → Course MachineOutcome
 after_unlocking context verdicts unlocking locking left = do

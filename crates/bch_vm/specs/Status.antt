@@ -46,11 +46,13 @@ closed_course context verdicts which unlocking locking s =
     told which (balanced s.board.conditions s) >>= after context verdicts which unlocking locking
 
 -- what is left of a script and after it
-abbrev pub running_course : Transaction (List ℕ) → List verdict.Row → Which → List ℕ → List ℕ → List ℕ → Counted → Course MachineOutcome
+abbrev pub running_course : Transaction (List ℕ) → List verdict.Row → Which → List ℕ → List ℕ → List ℕ → Counted
+    → Course MachineOutcome
 running_course context verdicts which script unlocking locking p =
     rest_course (setting_of context verdicts script) which script p >>= after context verdicts which unlocking locking
 
-abbrev pub phase_course : Transaction (List ℕ) → List verdict.Row → Phase → Counted → List ℕ → List ℕ → List ℕ → Course MachineOutcome
+abbrev pub phase_course : Transaction (List ℕ) → List verdict.Row → Phase → Counted → List ℕ → List ℕ → List ℕ
+    → Course MachineOutcome
 phase_course context verdicts Begin p redeem unlocking locking = scripts_course context verdicts unlocking locking
 phase_course context verdicts (Running which) p redeem unlocking locking =
     running_course context verdicts which (script_of which unlocking locking redeem) unlocking locking p
@@ -67,7 +69,8 @@ course_from context verdicts s =
 
 -- nothing was done: all of a spend is left, whichever it is
 abbrev pub IsAtBeginning : Status → Type 0
-IsAtBeginning s = (context : Transaction (List ℕ)) (verdicts : List verdict.Row) → course_from context verdicts s ≡ spend_course context verdicts
+IsAtBeginning s =
+    (context : Transaction (List ℕ)) (verdicts : List verdict.Row) → course_from context verdicts s ≡ spend_course context verdicts
 
 -- What a step answers by the course that was left, with the course that is left after it and the stack. It answers the
 -- first row; at the end it answers the end, and the end is what is left.
@@ -78,7 +81,8 @@ Goes _ _ next stack = ⊥
 
 -- the spend has ended so: nothing else is left of it, whatever it is handed from here on
 abbrev pub IsAtEnd : MachineOutcome → Status → Type 0
-IsAtEnd outcome s = (context : Transaction (List ℕ)) (verdicts : List verdict.Row) → course_from context verdicts s ≡ Stops outcome
+IsAtEnd outcome s =
+    (context : Transaction (List ℕ)) (verdicts : List verdict.Row) → course_from context verdicts s ≡ Stops outcome
 
 -- a step that answers an end leaves the machine there
 abbrev pub StaysAtEnd : Step → Status → Type 0

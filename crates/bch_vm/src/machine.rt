@@ -7,7 +7,7 @@ ghost use Rattle.script_codec.specs.declared.instr.Instr.{Instr};
 ghost use Rattle.tx_context.specs.Transaction.{Transaction};
 ghost use Rattle.tx_context.specs.Table.{Row as Verdict};
 ghost use Rattle.bch_vm.specs.Setting.{Setting};
-ghost use Rattle.bch_vm.specs.Script.{RunsInTurn};
+ghost use Rattle.bch_vm.specs.Script.{RunsInTurn, ExecutesInTurn};
 ghost use Rattle.bch_vm.specs.Course.{Gives, Stops};
 ghost use Rattle.bch_vm.specs.Spend;
 ghost use Rattle.bch_vm.specs.Spend.{push_check, stack_left, after_unlocking, after_locking, after_redeem, redeemed, scripts_course, spent_input, spend_outcome};
@@ -54,7 +54,7 @@ impl Machine {
         })
     }
 
-    /// The elements of the stack, the top last.
+    /// The elements of the stack, the top last, after an instruction; after the end of a spend they are left open.
     pub fn stack(&self) -> &[Element]
         ensures { reverse (map (λ e. e.items) result.now) ≡ stack_of self.now }
     {
@@ -394,7 +394,8 @@ fn locking_of(context: &Context) -> &[u8]
     context.spent_input().locking.as_slice()
 }
 
-/// Instructions that stand one after the other run as the first and then the second.
+/// Instructions that stand one after the other run as the first and then the second, and so they are executed.
 pub fn runs_in_turn()
-    ensures { (setting : Setting) (first second : List Instr) → RunsInTurn setting first second }
+    ensures states { (setting : Setting) (first second : List Instr) → RunsInTurn setting first second }
+    ensures executed { (setting : Setting) (first second : List Instr) → ExecutesInTurn setting first second }
 {}

@@ -350,9 +350,11 @@ impl Room {
         requires elements { Board.height self.old ≤ 1000 }
         requires modest { IsTrue (is_modest deed) }
         ensures ok { OnOk result
-            (executed (on_stack (done_and_verified (asked_at (around_of around.now) self.old.separator) deed)) self.old ≡ Ok self.new) }
+            (executed (on_stack (done_and_verified (asked_at (around_of around.now) self.old.separator) deed)) self.old
+            ≡ Ok self.new) }
         ensures err { IfErr result (λ cause.
-            executed (on_stack (done_and_verified (asked_at (around_of around.now) self.old.separator) deed)) self.old ≡ Err cause) }
+            executed (on_stack (done_and_verified (asked_at (around_of around.now) self.old.separator) deed)) self.old
+            ≡ Err cause) }
         ensures height { Board.height self.new ≤ Board.height self.old + 3 }
         ensures same { self.new.conditions ≡ self.old.conditions }
     {

@@ -6,8 +6,8 @@ ghost use Rattle.bch_vm.specs.Setting.{active_in};
 use std::marker::Model;
 use tx_context::{Context, Verdicts};
 
-/// What an instruction of a script may ask beyond both stacks: the transaction, the verdicts on signatures, the script's bytes, the
-/// place in them after the instruction, and how many more opcodes may be counted.
+/// What an instruction of a script may ask beyond both stacks: the transaction, the verdicts on signatures, the script's bytes,
+/// the place in them after the instruction, and how many more opcodes may be counted.
 #[derive(Drop)]
 pub struct Surroundings<'a> {
     pub context: &'a Context,

@@ -3,8 +3,8 @@
 use std::marker::Model;
 use tx_context::{Context, Verdicts};
 
-/// What an opcode may ask beyond its operands: the transaction, the verdicts on signatures, the active bytecode, and how many more
-/// opcodes may be counted.
+/// What an opcode may ask beyond its operands: the transaction, the verdicts on signatures, the active bytecode, and how many
+/// more opcodes may be counted.
 #[derive(Drop)]
 pub struct Asks<'a> {
     /// The transaction.

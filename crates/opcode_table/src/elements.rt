@@ -88,7 +88,7 @@ impl Elements {
         self.items.pop()
     }
 
-    /// Does a deed of the table.
+    /// Does a deed of the table. After a failure nothing is promised of the elements.
     pub fn act(&mut self, deed: Deed, asks: &Asks<'_>) -> Result<(), MachineCause>
         requires places { length self.old ≤ 1000 }
         requires modest { IsTrue (is_modest deed) }
@@ -123,7 +123,7 @@ impl Elements {
         }
     }
 
-    /// Does a deed of the table, and then what VERIFY does.
+    /// Does a deed of the table, and then what VERIFY does. After a failure nothing is promised of the elements.
     pub fn act_and_verify(&mut self, deed: Deed, asks: &Asks<'_>) -> Result<(), MachineCause>
         requires places { length self.old ≤ 1000 }
         requires modest { IsTrue (is_modest deed) }

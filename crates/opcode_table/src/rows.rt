@@ -17,8 +17,8 @@ pub enum Deed {
     Stays,
     /// It fails.
     Refuses(MachineCause),
-    /// It takes so many elements, of which the deepest is number 0, and puts so many: those with the numbers, in order, the last
-    /// on top.
+    /// It takes so many elements, of which the deepest is number 0, and puts so many: those with the numbers, in order, the
+    /// last on top.
     Puts(u8, u8, [u8; 6]),
     /// An operation on the element on top.
     One(Op1),

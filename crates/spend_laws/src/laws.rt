@@ -48,8 +48,8 @@ pub fn spend_stays_in_room()
     meaning_of_spelled();
 }
 
-/// A run of code of at most 520 bytes that counts at most 201 opcodes, with at most 33 elements handed in, never has more than 955
-/// elements on both stacks, in whichever world: each instruction adds one at most, and each opcode that is counted two more.
+/// A run of code of at most 520 bytes that counts at most 201 opcodes, with at most 33 elements handed in, never has more than
+/// 955 elements on both stacks, in whichever world: each instruction adds one at most, and each opcode that is counted two more.
 pub fn runs_stay_below()
     ensures { (world : World) (code : List Instr) (elements : Stack) → IsTrue (are_instructions code)
         → length (spellings code) ≤ 520 → length elements ≤ 33 → counted_in (reading (spellings code)) ≤ 201
