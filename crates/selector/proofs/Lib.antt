@@ -1,0 +1,10 @@
+pub mod Runs
+pub mod Shapes
+pub mod Built
+pub mod Chosen
+pub mod Refused
+pub mod Sizes
+pub mod Anywhere
+pub mod Alone
+pub mod Opcodes
+pub mod Whole

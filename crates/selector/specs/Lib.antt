@@ -1,0 +1,4 @@
+pub mod Pieces
+pub mod Choice
+pub mod Place
+pub mod Selection
