@@ -87,13 +87,13 @@ choice_suits P h contract n [] = tt
 choice_suits P h contract n (function ∷ []) =
     (one P contract (number n) (own contract NUMEQUALVERIFY ∷ []) (h.pushes _) (one P contract NUMEQUALVERIFY [] h.verifies refl), tt)
 choice_suits P h contract n (function ∷ next ∷ functions) = (
-      opening_suits P h contract n,
-      (
-        one P contract ELSE [] h.flips refl,
-        own_append P (choice contract (n + 1) (next ∷ functions)) (Own (own contract ENDIF ∷ []) ∷ [])
+  opening_suits P h contract n,
+  (
+    one P contract ELSE [] h.flips refl,
+    own_append P (choice contract (n + 1) (next ∷ functions)) (Own (own contract ENDIF ∷ []) ∷ [])
         (choice_suits P h contract (n + 1) (next ∷ functions)) (one P contract ENDIF [] h.closes refl, tt),
-      ),
-    )
+  ),
+)
 
 -- so it holds of all instructions of the code where it holds of those of the functions
 pub all_chosen : (P : Instr → Bool) → Suits P → (contract : Span) (ctors : ℕ) (functions : List Marked) (pieces : List Piece)
@@ -108,24 +108,56 @@ all_chosen P h contract ctors functions pieces are in_order all =
 
 pub instructions_suit : Suits is_instruction
 instructions_suit = record {
-  pushes = λ e. refl; raises = refl; copies = refl; compares = refl; verifies = refl; opens = refl; drops = refl; flips = refl; closes = refl;
+  pushes = λ e. refl;
+  raises = refl;
+  copies = refl;
+  compares = refl;
+  verifies = refl;
+  opens = refl;
+  drops = refl;
+  flips = refl;
+  closes = refl;
 }
 
 pub separators_suit : Suits (λ instr. not (separates instr))
 unfolding rows
 separators_suit = record {
-  pushes = λ e. refl; raises = refl; copies = refl; compares = refl; verifies = refl; opens = refl; drops = refl; flips = refl; closes = refl;
+  pushes = λ e. refl;
+  raises = refl;
+  copies = refl;
+  compares = refl;
+  verifies = refl;
+  opens = refl;
+  drops = refl;
+  flips = refl;
+  closes = refl;
 }
 
 pub depth_suits : Suits (λ instr. not (counts_elements instr))
 unfolding rows
 depth_suits = record {
-  pushes = λ e. refl; raises = refl; copies = refl; compares = refl; verifies = refl; opens = refl; drops = refl; flips = refl; closes = refl;
+  pushes = λ e. refl;
+  raises = refl;
+  copies = refl;
+  compares = refl;
+  verifies = refl;
+  opens = refl;
+  drops = refl;
+  flips = refl;
+  closes = refl;
 }
 
 keys_suit : Suits (λ instr. not (asks_for_keys instr))
 keys_suit = record {
-  pushes = λ e. refl; raises = refl; copies = refl; compares = refl; verifies = refl; opens = refl; drops = refl; flips = refl; closes = refl;
+  pushes = λ e. refl;
+  raises = refl;
+  copies = refl;
+  compares = refl;
+  verifies = refl;
+  opens = refl;
+  drops = refl;
+  flips = refl;
+  closes = refl;
 }
 
 -- an opcode that is none of these isn't one of them

@@ -1,5 +1,5 @@
 -- Code that can be put together.
-use Rattle.std.specs.Prelude.{IsTrue, ◌×◌}
+use Rattle.std.specs.Prelude.{IsTrue}
 use Rattle.script_codec.specs.declared.spans.Marked.{Marked}
 use Rattle.run_laws.specs.Nested.{is_nested}
 use Rattle.selector.specs.Pieces.{instructions}
