@@ -1,11 +1,14 @@
 //! The meaning of a contract: how a run of its source ends.
 #![tactic(auto)]
 
+mod evaluate;
+mod execute;
+mod names;
+mod operands;
 pub mod outcome;
 pub mod room;
+pub mod world;
 
 pub use outcome::{Failure, SourceOutcome};
 pub use room::SourceRoom;
-
-#[cfg(test)]
-mod tests;
+pub use world::World;
