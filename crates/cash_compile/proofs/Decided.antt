@@ -11,11 +11,11 @@ use Rattle.cash_base.specs.declared.place.Span.{Span}
 use Rattle.cash_base.specs.Failing.{◌>>=◌}
 use Rattle.cash_base.specs.Number.{truth_of}
 use Rattle.cash_tree.specs.declared.Ty.{Ty}
-use Rattle.cash_tree.specs.declared.Param.{Param}
 use Rattle.cash_tree.specs.declared.Contract.{Contract}
 use Rattle.source_meaning.specs.declared.outcome.Failure as source
 use Rattle.source_meaning.specs.declared.outcome.SourceOutcome.{SourceOutcome}
-use Rattle.source_meaning.specs.Meaning.{Env, value_of, checked, fails, with_values, no_values, ended, env_after_kind, env_after_all, source_outcome}
+use Rattle.source_meaning.specs.Meaning.{Env, element, value_of, checked, fails, with_values, no_values, ended, kind_leaves, env_after, env_after_all, source_outcome}
+use Rattle.source_meaning.proofs.StmtSteps.{whole_left, require_leaves}
 use Rattle.tx_context.specs.World.{World}
 use Rattle.script_codec.specs.declared.spans.Spanned.{Spanned}
 use Rattle.script_codec.specs.Spelling.{are_instructions}
@@ -29,16 +29,14 @@ use Rattle.cash_base.specs.Source.{place_in, IsInside}
 use Rattle.cash_compile.specs.Describes.{IsRowInside}
 use Rattle.cash_compile.specs.Rows.{RowFailure, run_rows, row, doings, instructions, places, is_span, are_rows_of, is_plain, code_size, AreFew}
 use Rattle.cash_compile.specs.Runs.{EndsAs, AgreesByRun}
-use Rattle.source_meaning.specs.Runnable.{HaveSlotsFrom, env_of}
-use Rattle.source_meaning.proofs.Slots.{with_values-env_of}
-use Rattle.cash_compile.specs.Emission.{HoldsArgs, IsEmittable, Leaves, Follows, told_of, ArePlaced, IsKindInside, IsStatementInside, IsContractInside}
+use Rattle.cash_compile.specs.Form.{opened}
+use Rattle.cash_compile.specs.Values.{elements_of, computed}
+use Rattle.cash_compile.specs.Emission.{IsEmittable, Leaves, Follows, told_of, ArePlaced, IsKindInside, IsStatementInside, IsContractInside}
+use Rattle.cash_compile.proofs.Agreement.{comparison_same}
 use Rattle.cash_compile.proofs.Emits.{opcode, next}
+use Rattle.cash_compile.proofs.FormShape.{comparison_at}
 use Rattle.cash_compile.proofs.Rows.{rows_in_turn, Located, located, last_within}
-
--- the slots of the parameters hold the arguments
-holds_args : (params : List (Param Slot)) (args : List (List ℕ)) → HaveSlotsFrom 0 params → length args ≡ length params → HoldsArgs (with_values params args no_values) args
-unfolding env_of
-holds_args params args slots count slot within = ap (λ env. env slot) (with_values-env_of [] params [] args tt refl slots count)
+use Rattle.cash_compile.proofs.Slots.{holds_args}
 
 -- ---- the parameters are dropped from below the value
 
@@ -174,16 +172,23 @@ ends statement rows args env (Err failure) end outcome all last (r, is, place) w
     subst (λ (o : Result State Failure). EndsAs (map places rows) (ended {A = Env} (Err failure)) (o >>= λ s. balanced s.board.conditions s)) (sym ran.2)
     (inl (0 + ran.0, refl, there))
 
--- the run of the source, where the one statement is a require
+-- the run of the source, where the one statement requires what the expression computes of the arguments
 outcome_is : (contract : Contract Slot Ty) (h : IsEmittable contract) (args : List (List ℕ)) (world : World) →
-    source_outcome contract [] h.function args world ≡ ended ((value_of h.value (with_values h.function.params args no_values) >>= λ v. checked h.statement.span v (with_values h.function.params args no_values)) >>= λ next. Ok next)
+    source_outcome contract [] h.function args world
+    ≡ ended ((computed h.value (elements_of (with_values h.function.params args no_values)) >>= λ v. checked h.statement.span v (with_values h.function.params args no_values)) >>= λ next. Ok next)
 outcome_is contract h args world =
     let env = with_values h.function.params args no_values in
-    ap (λ ps. ended (env_after_all h.function.body (with_values h.function.params args (with_values ps [] no_values)))) h.alone
-    ∙ ap (λ body. ended (env_after_all body env)) h.body
-    ∙ ap (λ kind. ended (env_after_kind kind h.statement.span env >>= λ next. Ok next)) h.checks
+    let count = length h.function.params in
+    let statement = h.statement in
+    let compared = comparison_at count h.value.kind (opened h.value.kind) refl h.compares in
+    let left : env_after world statement env ≡ (element (value_of world env h.value) >>= λ v. checked statement.span v env) =
+    whole_left world statement env ∙ ap (λ kind. kind_leaves world kind statement.span env) h.checks ∙ require_leaves world h.value statement.span env in
+    ap (λ ps. ended (env_after_all world h.function.body (with_values h.function.params args (with_values ps [] no_values)))) h.alone
+    ∙ ap (λ body. ended (env_after_all world body env)) h.body
+    ∙ ap (λ (r : Result Env source.Failure). ended (r >>= λ next. Ok next)) left
+    ∙ ap (λ (r : Result (List ℕ) source.Failure). ended ((r >>= λ v. checked statement.span v env) >>= λ next. Ok next)) (comparison_same world env count h.value compared)
 
-pub decided : (contract : Contract Slot Ty) (h : IsEmittable contract) (rows all : List Spanned) → Follows (length h.function.params) 0 rows (value_of h.value) → all ≡ whole h.statement.span (length h.function.params) rows → are_rows_of h.statement.span all ≡ true → 1 ≤ length all → AgreesByRun contract all
+pub decided : (contract : Contract Slot Ty) (h : IsEmittable contract) (rows all : List Spanned) → Follows (length h.function.params) 0 rows (computed h.value) → all ≡ whole h.statement.span (length h.function.params) rows → are_rows_of h.statement.span all ≡ true → 1 ≤ length all → AgreesByRun contract all
 decided contract h rows all follows is belong some = record {
   function = h.function;
   only = h.only;
@@ -193,11 +198,13 @@ decided contract h rows all follows is belong some = record {
   agrees = λ args world count elements.
       let setting = setting_in world (instructions all) in
       let env = with_values h.function.params args no_values in
-      let left = all_left setting h.statement.span args rows (value_of h.value env) (follows.runs setting [] args env beginning refl count (holds_args h.function.params args h.slots count)) in
+      let elements_ = elements_of env in
+      let value = computed h.value elements_ in
+      let left = all_left setting h.statement.span args rows value (follows.runs setting [] args elements_ beginning refl count (holds_args h.function.params args h.slots count)) in
       let same : whole h.statement.span (length args) rows ≡ all = ap (λ (n : ℕ). whole h.statement.span n rows) count ∙ sym is in
-      let left' = subst (λ (l : List Spanned). Leaves [] (value_of h.value env) (run_rows setting l (state args beginning))) same left in
+      let left' = subst (λ (l : List Spanned). Leaves [] value (run_rows setting l (state args beginning))) same left in
       subst (λ (o : SourceOutcome). EndsAs (map places all) o (run_end world (instructions all) args)) (sym (outcome_is contract h args world))
-      (ends h.statement.span all args env (value_of h.value env) (run_rows setting all (state args beginning)) (run setting (instructions all) (state args beginning)) belong
+      (ends h.statement.span all args env value (run_rows setting all (state args beginning)) (run setting (instructions all) (state args beginning)) belong
       (λ s e. let within = last_within setting all s (length all - 1) (state args beginning) e (omega arith) (omega (arith, some)) in omega (arith, within, some))
       left' (located setting all (state args beginning)));
 }

@@ -20,8 +20,7 @@ use Rattle.cash_base.proofs.Laws.{number_of-minimal_bytes}
 use Rattle.cash_tree.specs.declared.ExprKind.TheOpen.{ExprKind-F}
 use Rattle.cash_tree.specs.declared.BinaryOp.{BinaryOp}
 use Rattle.cash_tree.specs.declared.BinaryOp.TheVariants.{Equal}
-use Rattle.source_meaning.specs.Meaning.{Env, Value, kind_value, at_span}
-use Rattle.source_meaning.specs.Runnable.{has_meaning}
+use Rattle.source_meaning.specs.Meaning.{at_span}
 use Rattle.source_meaning.specs.declared.outcome.Failure as source
 use Rattle.script_codec.specs.declared.instr.Instr.{Instr}
 use Rattle.script_codec.specs.declared.instr.Instr.TheVariants.{Push, Do}
@@ -37,7 +36,8 @@ use Rattle.std.specs.Prelude.{◌&&◌}
 use Rattle.std.proofs.lemmas.Bool.{and_from, eq-eqb}
 use Rattle.cash_base.specs.Operand.{operand_number, number_or_cause}
 use Rattle.cash_compile.specs.Rows.{RowFailure, failed_at, run_rows, row, is_span, is_plain, is_row_of, are_rows_of}
-use Rattle.cash_compile.specs.Emission.{Leaves, Follows, Emits}
+use Rattle.cash_compile.specs.Values.{Elements, Value, kind_computed}
+use Rattle.cash_compile.specs.Emission.{has_code, Leaves, Follows, Emits}
 use Rattle.cash_compile.proofs.Rows.{rows_in_turn}
 
 abbrev pub opcode : ℕ → Instr
@@ -58,20 +58,20 @@ row_put (first ∷ rows) new instr doing statement is e = ap (are_rows_of statem
 
 -- ---- a literal
 
-follows_literal : (params depth : ℕ) (e : ArrayVec ℕ) (doing checking : Span) (value : Value) → ((env : Env) → value env ≡ Ok e.items) → Follows params depth (row (Push e) doing checking ∷ []) value
+follows_literal : (params depth : ℕ) (e : ArrayVec ℕ) (doing checking : Span) (value : Value) → ((elements : Elements) → value elements ≡ Ok e.items) → Follows params depth (row (Push e) doing checking ∷ []) value
 unfolding table
 follows_literal params depth e doing checking value is = record {
-  runs = λ setting operands args env at d a h.
-      subst (λ r. Leaves (operands ++ args) r (Ok (state (e.items ∷ operands ++ args) (next (Push e) at)))) (sym (is env)) (next (Push e) at, refl);
+  runs = λ setting operands args elements at d a h.
+      subst (λ r. Leaves (operands ++ args) r (Ok (state (e.items ∷ operands ++ args) (next (Push e) at)))) (sym (is elements)) (next (Push e) at, refl);
 }
 
-pub emits_literal : (old new : Emitter) (e : ArrayVec ℕ) (n : ℤ) (depth digits unit : ℕ) (span : Span) → n ≡ pos (digits * unit) → e.items ≡ minimal_bytes n → new.rows.items ≡ old.rows.items ++ row (Push e) span old.statement ∷ [] → new.params ≡ old.params → new.statement ≡ old.statement → Emits old new depth (kind_value (ExprKind-F.Int digits unit) span)
+pub emits_literal : (old new : Emitter) (e : ArrayVec ℕ) (n : ℤ) (depth digits unit : ℕ) (span : Span) → n ≡ pos (digits * unit) → e.items ≡ minimal_bytes n → new.rows.items ≡ old.rows.items ++ row (Push e) span old.statement ∷ [] → new.params ≡ old.params → new.statement ≡ old.statement → Emits old new depth (kind_computed (ExprKind-F.Int digits unit) span)
 emits_literal old new e n depth digits unit span is bytes grown same statement = record {
   rows = row (Push e) span old.statement ∷ [];
   grown = grown;
   same = same;
   statement = statement;
-  follows = follows_literal old.params depth e span old.statement (kind_value (ExprKind-F.Int digits unit) span) (λ env. ap (λ k. Ok (minimal_bytes k)) (sym is) ∙ ap Ok (sym bytes));
+  follows = follows_literal old.params depth e span old.statement (kind_computed (ExprKind-F.Int digits unit) span) (λ elements. ap (λ k. Ok (minimal_bytes k)) (sym is) ∙ ap Ok (sym bytes));
 }
 
 -- ---- a name
@@ -92,17 +92,17 @@ arg_found operands args depth n d within =
     ∙ ap (λ k. Some (get_or (operands ++ args) (k + n) [])) (sym d)
     ∙ ap Some (get_or-append-add operands args n [])
 
-follows_name : (params depth : ℕ) (slot : Slot) (e : ArrayVec ℕ) (span checking : Span) → slot.0 < params → depth + slot.0 < 2 ^ 63 → e.items ≡ minimal_bytes (pos (depth + slot.0)) → Follows params depth (row (Push e) span checking ∷ row (opcode 0x79) span checking ∷ []) (kind_value (ExprKind-F.Name slot) span)
+follows_name : (params depth : ℕ) (slot : Slot) (e : ArrayVec ℕ) (span checking : Span) → slot.0 < params → depth + slot.0 < 2 ^ 63 → e.items ≡ minimal_bytes (pos (depth + slot.0)) → Follows params depth (row (Push e) span checking ∷ row (opcode 0x79) span checking ∷ []) (kind_computed (ExprKind-F.Name slot) span)
 unfolding table
 follows_name params depth slot e span checking known small bytes = record {
-  runs = λ setting operands args env at d a holds.
+  runs = λ setting operands args elements at d a holds.
       let end = next (opcode 0x79) (next (Push e) at) in
       let within : slot.0 < length args = omega (arith, known, a) in
       let found = arg_found operands args depth slot.0 d within ∙ ap Some (sym (holds slot within)) in
-      (end, ap (λ r. failed_at (row (opcode 0x79) span checking) (passed (at.at + 1) end (r >>= λ stack. Ok (board stack [] [] 0))) >>= run_rows setting []) (picked_at e.items (operands ++ args) (depth + slot.0) (env slot) (number_read (depth + slot.0) e.items small bytes) found));
+      (end, ap (λ r. failed_at (row (opcode 0x79) span checking) (passed (at.at + 1) end (r >>= λ stack. Ok (board stack [] [] 0))) >>= run_rows setting []) (picked_at e.items (operands ++ args) (depth + slot.0) (elements slot) (number_read (depth + slot.0) e.items small bytes) found));
 }
 
-pub emits_name : (old mid new : Emitter) (e : ArrayVec ℕ) (n : ℤ) (depth : ℕ) (slot : Slot) (span : Span) → slot.0 < old.params → depth + slot.0 < 2 ^ 63 → n ≡ pos (depth + slot.0) → e.items ≡ minimal_bytes n → mid.rows.items ≡ old.rows.items ++ row (Push e) span old.statement ∷ [] → mid.params ≡ old.params → mid.statement ≡ old.statement → new.rows.items ≡ mid.rows.items ++ row (opcode 0x79) span mid.statement ∷ [] → new.params ≡ mid.params → new.statement ≡ mid.statement → Emits old new depth (kind_value (ExprKind-F.Name slot) span)
+pub emits_name : (old mid new : Emitter) (e : ArrayVec ℕ) (n : ℤ) (depth : ℕ) (slot : Slot) (span : Span) → slot.0 < old.params → depth + slot.0 < 2 ^ 63 → n ≡ pos (depth + slot.0) → e.items ≡ minimal_bytes n → mid.rows.items ≡ old.rows.items ++ row (Push e) span old.statement ∷ [] → mid.params ≡ old.params → mid.statement ≡ old.statement → new.rows.items ≡ mid.rows.items ++ row (opcode 0x79) span mid.statement ∷ [] → new.params ≡ mid.params → new.statement ≡ mid.statement → Emits old new depth (kind_computed (ExprKind-F.Name slot) span)
 emits_name old mid new e n depth slot span known small is bytes pushed same kept picks same' kept' = record {
   rows = row (Push e) span old.statement ∷ row (opcode 0x79) span old.statement ∷ [];
   grown = picks ∙ ap (λ s. mid.rows.items ++ row (opcode 0x79) span s ∷ []) kept ∙ ap (λ l. l ++ row (opcode 0x79) span old.statement ∷ []) pushed ∙ append_assoc old.rows.items _ _;
@@ -154,22 +154,22 @@ equal_checks_nothing : (x y : List ℕ) → result2 NumEqual x y ≡ Err CheckFa
 equal_checks_nothing x y is =
     numbers_compared (operand_number x) (operand_number y) int_eq (number_is_no_check (number_of x)) (number_is_no_check (number_of y)) is
 
-follows_equal : (params depth : ℕ) (a b : List Spanned) (left right : Value) (span checking : Span) → Follows params depth a left → Follows params (depth + 1) b right → Follows params depth (a ++ (b ++ row (opcode 0x9c) span checking ∷ [])) (kind_value (ExprKind-F.Binary Equal left right) span)
+follows_equal : (params depth : ℕ) (a b : List Spanned) (left right : Value) (span checking : Span) → Follows params depth a left → Follows params (depth + 1) b right → Follows params depth (a ++ (b ++ row (opcode 0x9c) span checking ∷ [])) (kind_computed (ExprKind-F.Binary Equal left right) span)
 unfolding table
 follows_equal params depth a b left right span checking first second = record {
-  runs = λ setting operands args env at d n holds.
+  runs = λ setting operands args elements at d n holds.
       let below = operands ++ args in
       let compares = row (opcode 0x9c) span checking ∷ [] in
       let last = λ (x y : List ℕ) (k : Progress). compared setting below k span checking (result2 NumEqual x y) (equal_checks_nothing x y) in
       let further = λ (x : List ℕ) (k : Progress).
       let d' : length (x ∷ operands) ≡ depth + 1 = omega (arith, d) in
-      subst (λ r. Leaves below (right env >>= λ y. at_span span (result2 NumEqual x y)) r) (sym (rows_in_turn setting b compares (state (x ∷ below) k)))
-      (after_part setting (x ∷ below) compares (right env) (run_rows setting b (state (x ∷ below) k)) (λ y. at_span span (result2 NumEqual x y)) below (second.runs setting (x ∷ operands) args env k d' n holds) (last x)) in
-      subst (λ r. Leaves below (kind_value (ExprKind-F.Binary Equal left right) span env) r) (sym (rows_in_turn setting a (b ++ compares) (state below at)))
-      (after_part setting below (b ++ compares) (left env) (run_rows setting a (state below at)) (λ x. right env >>= λ y. at_span span (result2 NumEqual x y)) below (first.runs setting operands args env at d n holds) further);
+      subst (λ r. Leaves below (right elements >>= λ y. at_span span (result2 NumEqual x y)) r) (sym (rows_in_turn setting b compares (state (x ∷ below) k)))
+      (after_part setting (x ∷ below) compares (right elements) (run_rows setting b (state (x ∷ below) k)) (λ y. at_span span (result2 NumEqual x y)) below (second.runs setting (x ∷ operands) args elements k d' n holds) (last x)) in
+      subst (λ r. Leaves below (kind_computed (ExprKind-F.Binary Equal left right) span elements) r) (sym (rows_in_turn setting a (b ++ compares) (state below at)))
+      (after_part setting below (b ++ compares) (left elements) (run_rows setting a (state below at)) (λ x. right elements >>= λ y. at_span span (result2 NumEqual x y)) below (first.runs setting operands args elements at d n holds) further);
 }
 
-emits_equal : (old mid last new : Emitter) (depth : ℕ) (left right : Value) (span : Span) → Emits old mid depth left → Emits mid last (depth + 1) right → new.rows.items ≡ last.rows.items ++ row (opcode 0x9c) span last.statement ∷ [] → new.params ≡ last.params → new.statement ≡ last.statement → Emits old new depth (kind_value (ExprKind-F.Binary Equal left right) span)
+emits_equal : (old mid last new : Emitter) (depth : ℕ) (left right : Value) (span : Span) → Emits old mid depth left → Emits mid last (depth + 1) right → new.rows.items ≡ last.rows.items ++ row (opcode 0x9c) span last.statement ∷ [] → new.params ≡ last.params → new.statement ≡ last.statement → Emits old new depth (kind_computed (ExprKind-F.Binary Equal left right) span)
 emits_equal old mid last new depth left right span first second grown same kept =
     let compares = row (opcode 0x9c) span old.statement ∷ [] in
     record {
@@ -181,10 +181,10 @@ emits_equal old mid last new depth left right span first second grown same kept 
     }
 
 -- so far only `==` can be emitted
-only_equal : (op : BinaryOp) → IsTrue (has_meaning op) → op ≡ Equal
+only_equal : (op : BinaryOp) → IsTrue (has_code op) → op ≡ Equal
 only_equal Equal known = refl
 only_equal _ known = cc
 
-pub emits_binary : (old mid last new : Emitter) (depth : ℕ) (op : BinaryOp) (left right : Value) (span : Span) → IsTrue (has_meaning op) → Emits old mid depth left → Emits mid last (depth + 1) right → new.rows.items ≡ last.rows.items ++ row (opcode 0x9c) span last.statement ∷ [] → new.params ≡ last.params → new.statement ≡ last.statement → Emits old new depth (kind_value (ExprKind-F.Binary op left right) span)
+pub emits_binary : (old mid last new : Emitter) (depth : ℕ) (op : BinaryOp) (left right : Value) (span : Span) → IsTrue (has_code op) → Emits old mid depth left → Emits mid last (depth + 1) right → new.rows.items ≡ last.rows.items ++ row (opcode 0x9c) span last.statement ∷ [] → new.params ≡ last.params → new.statement ≡ last.statement → Emits old new depth (kind_computed (ExprKind-F.Binary op left right) span)
 emits_binary old mid last new depth op left right span known first second grown same kept =
-    subst (λ o. Emits old new depth (kind_value (ExprKind-F.Binary o left right) span)) (sym (only_equal op known)) (emits_equal old mid last new depth left right span first second grown same kept)
+    subst (λ o. Emits old new depth (kind_computed (ExprKind-F.Binary o left right) span)) (sym (only_equal op known)) (emits_equal old mid last new depth left right span first second grown same kept)

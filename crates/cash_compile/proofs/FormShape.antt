@@ -16,8 +16,8 @@ use Rattle.cash_tree.specs.declared.ExprKind.TheVariants as nodes
 use Rattle.cash_tree.specs.declared.ExprKind.TheOpen.{ExprKind-F}
 use Rattle.cash_tree.specs.declared.ExprKind.TheViews.{roll-ExprKind, roll-out-ExprKind}
 use Rattle.cash_tree.specs.declared.BinaryOp.TheVariants.{Equal}
-use Rattle.source_meaning.specs.Runnable.{HaveSlotsFrom, are_ints}
-use Rattle.cash_compile.specs.Form.{Open, opened, are_in_slots, are_few_ints, is_operand, is_comparison, is_check, is_body, is_function, is_alone, is_equality}
+use Rattle.form_tables.specs.Forms.{is_int}
+use Rattle.cash_compile.specs.Form.{Open, opened, are_ints, are_in_slots, HaveSlotsFrom, are_few_ints, is_parameter_or_number, is_operand, is_comparison, is_check, is_body, is_function, is_alone, is_equality}
 
 -- ---- operands
 
@@ -36,11 +36,17 @@ IsSmallNumber kind = (digits unit : ℕ) × (digits * unit ≤ 16) × (kind ≡ 
 abbrev pub IsOperand : ℕ → ExprKind Slot Ty → Type 0
 IsOperand count kind = IsParam count kind ⊎ IsSmallNumber kind
 
-operand_at : (count : ℕ) (kind : ExprKind Slot Ty) (layer : Open) → opened kind ≡ layer → is_operand count layer ≡ true → IsOperand count kind
-unfolding is_operand roll-ExprKind denote.Hole.Carrier.roll
+operand_at : (count : ℕ) (kind : ExprKind Slot Ty) (layer : Open) → opened kind ≡ layer → is_parameter_or_number count layer ≡ true → IsOperand count kind
+unfolding is_parameter_or_number roll-ExprKind denote.Hole.Carrier.roll
 operand_at count kind (ExprKind-F.Name name) at is = inl (name, ltb-true name.0 count is, kind_is kind (ExprKind-F.Name name) at)
 operand_at count kind (ExprKind-F.Int digits unit) at is = inr (digits, unit, leb-true (digits * unit) 16 is, kind_is kind (ExprKind-F.Int digits unit) at)
 operand_at count kind _ at is = absurd cc
+
+operand_is : (count : ℕ) (e : Expr Slot Ty) → is_operand count e ≡ true → (is_int e.ty ≡ true) × IsOperand count e.kind
+unfolding is_operand
+operand_is count e is =
+    let both = and_parts (is_int e.ty) (is_parameter_or_number count (opened e.kind)) is in
+    (both.0, operand_at count e.kind (opened e.kind) refl both.1)
 
 -- ---- the equality
 
@@ -48,26 +54,25 @@ operand_at count kind _ at is = absurd cc
 abbrev pub IsComparison : ℕ → ExprKind Slot Ty → Type 0
 IsComparison count kind =
     (left right : Expr Slot Ty) × (kind ≡ nodes.Binary Equal left right) × IsOperand count left.kind × IsOperand count right.kind
+    × (is_int left.ty ≡ true)
 
-comparison_at : (count : ℕ) (kind : ExprKind Slot Ty) (layer : Open) → opened kind ≡ layer → is_comparison count layer ≡ true → IsComparison count kind
+pub comparison_at : (count : ℕ) (kind : ExprKind Slot Ty) (layer : Open) → opened kind ≡ layer → is_comparison count layer ≡ true → IsComparison count kind
 unfolding is_comparison roll-ExprKind denote.Hole.Carrier.roll
 comparison_at count kind (ExprKind-F.Binary Equal left right) at is =
-    let both = and_parts (is_operand count (opened left.kind)) (is_operand count (opened right.kind)) is in (
-      left,
-      right,
-      kind_is kind (ExprKind-F.Binary Equal left right) at,
-      operand_at count left.kind (opened left.kind) refl both.0,
-      operand_at count right.kind (opened right.kind) refl both.1,
-    )
+    let both = and_parts (is_operand count left) (is_operand count right) is in
+    let first = operand_is count left both.0 in
+    let second = operand_is count right both.1 in
+    (left, right, kind_is kind (ExprKind-F.Binary Equal left right) at, first.1, second.1, first.0)
 comparison_at count kind _ at is = absurd cc
 
 -- a check of such an equality
 abbrev pub IsCheck : ℕ → StmtKind Slot Ty → Type 0
 IsCheck count kind = (value : Expr Slot Ty) × (kind ≡ statements.Require value) × IsComparison count value.kind
+    × (is_comparison count (opened value.kind) ≡ true)
 
 check_is : (count : ℕ) (kind : StmtKind Slot Ty) → is_check count kind ≡ true → IsCheck count kind
 unfolding is_check
-check_is count (statements.Require value) is = (value, refl, comparison_at count value.kind (opened value.kind) refl is)
+check_is count (statements.Require value) is = (value, refl, comparison_at count value.kind (opened value.kind) refl is, is)
 check_is count _ is = absurd cc
 
 -- ---- the function

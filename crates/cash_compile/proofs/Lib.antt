@@ -1,4 +1,5 @@
 pub mod Accepted
+pub mod Agreement
 pub mod Correct
 pub mod Decided
 pub mod Emits
@@ -6,5 +7,6 @@ pub mod FormShape
 pub mod Places
 pub mod Rows
 pub mod Sizes
+pub mod Slots
 pub mod Ways
 pub mod Words

@@ -2,8 +2,10 @@
 --
 -- The form: no parameter of the constructor; one function with at most 16 parameters, each an int, in the slots from 0
 -- in order; its body requires that two operands are equal. An operand is one of the parameters, or a number of at most
--- 16, its unit counted in. Pragmas, names and types were judged before.
+-- 16, its unit counted in; its type is int, as it is in every contract that the types give. Pragmas, names and types were
+-- judged before.
 use Rattle.std.specs.Prelude.{◌≡◌, ℕ, ◌+◌, ◌*◌, ◌==◌, nat_le, nat_lt, Bool, true, false, ◌&&◌, List, [], ◌∷◌, length}
+use Rattle.std.specs.List.{list_all}
 use Rattle.cash_base.specs.declared.place.Slot.{Slot}
 use Rattle.cash_tree.specs.declared.Ty.{Ty}
 use Rattle.cash_tree.specs.declared.Contract.{Contract}
@@ -16,14 +18,23 @@ use Rattle.cash_tree.specs.declared.Expr.{Expr}
 use Rattle.cash_tree.specs.declared.ExprKind.{ExprKind, out-ExprKind}
 use Rattle.cash_tree.specs.declared.ExprKind.TheOpen.{ExprKind-F}
 use Rattle.cash_tree.specs.declared.BinaryOp.TheVariants.{Equal}
-use Rattle.source_meaning.specs.Runnable.{are_ints}
+use Rattle.form_tables.specs.Forms.{is_int}
 
 -- ---- the parameters
+
+-- each is an int
+abbrev pub are_ints : List (Param Slot) → Bool
+are_ints params = list_all (λ (param : Param Slot). is_int param.ty) params
 
 -- the parameters have the slots from k on, in order
 unfoldable pub are_in_slots : ℕ → List (Param Slot) → Bool
 are_in_slots k [] = true
 are_in_slots k (param ∷ params) = (param.name.0 == k) && are_in_slots (k + 1) params
+
+-- ... as a fact
+abbrev pub HaveSlotsFrom : ℕ → List (Param Slot) → Type 0
+HaveSlotsFrom k [] = Unit {0}
+HaveSlotsFrom k (param ∷ params) = (param.name.0 ≡ k) × HaveSlotsFrom (k + 1) params
 
 -- at most 16 parameters, each an int, in the slots from 0 (a named tree's are so always)
 unfoldable pub are_few_ints : List (Param Slot) → Bool
@@ -39,15 +50,18 @@ abbrev pub opened : ExprKind Slot Ty → Open
 opened kind = out-ExprKind Slot Ty kind
 
 -- one of so many parameters, or a number of at most 16
-unfoldable pub is_operand : ℕ → Open → Bool
-is_operand count (ExprKind-F.Name name) = nat_lt name.0 count
-is_operand count (ExprKind-F.Int digits unit) = nat_le (digits * unit) 16
-is_operand count _ = false
+unfoldable pub is_parameter_or_number : ℕ → Open → Bool
+is_parameter_or_number count (ExprKind-F.Name name) = nat_lt name.0 count
+is_parameter_or_number count (ExprKind-F.Int digits unit) = nat_le (digits * unit) 16
+is_parameter_or_number count _ = false
+
+-- ... and an int
+unfoldable pub is_operand : ℕ → Expr Slot Ty → Bool
+is_operand count e = is_int e.ty && is_parameter_or_number count (opened e.kind)
 
 -- two operands are equal
 unfoldable pub is_comparison : ℕ → Open → Bool
-is_comparison count (ExprKind-F.Binary Equal left right) =
-    is_operand count (opened left.kind) && is_operand count (opened right.kind)
+is_comparison count (ExprKind-F.Binary Equal left right) = is_operand count left && is_operand count right
 is_comparison count _ = false
 
 -- that is required

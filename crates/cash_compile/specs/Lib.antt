@@ -5,3 +5,4 @@ pub mod Emission
 pub mod Form
 pub mod Rows
 pub mod Runs
+pub mod Values

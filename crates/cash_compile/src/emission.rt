@@ -3,13 +3,13 @@
 ghost use Rattle.std.specs.Prelude.{◌≡◌, ◌+◌, ◌*◌, ◌≤◌, ◌<◌, ◌^◌, [], ◌∷◌, ◌++◌, length, map, pos, negsuc, ◌<ℤ◌, true, ℕ, IsTrue, OnOk, IfOk, replicate};
 ghost use Rattle.cash_base.specs.Number.{minimal_bytes};
 ghost use Rattle.cash_tree.specs.declared.ExprKind.TheOpen.{ExprKind-F};
-ghost use Rattle.source_meaning.specs.Meaning.{value_of, kind_value};
-ghost use Rattle.source_meaning.specs.Runnable.{has_meaning, is_runnable, nodes};
+ghost use Rattle.cash_tree.specs.Nodes.{nodes};
 ghost use Rattle.script_codec.specs.declared.instr.Instr.TheVariants.{Push, Do};
 ghost use Rattle.script_codec.specs.Spelling.{spelling};
 ghost use Rattle.cash_compile.specs.Rows.{row, doings, places, code_size, is_plain, are_rows_of, AreFew};
 ghost use Rattle.cash_compile.specs.Runs.{AgreesByRun};
-ghost use Rattle.cash_compile.specs.Emission.{Emits, IsEmittable, ArePlaced, kind_told, told_of};
+ghost use Rattle.cash_compile.specs.Values.{kind_computed, computed};
+ghost use Rattle.cash_compile.specs.Emission.{has_code, can_emit, Emits, IsEmittable, ArePlaced, kind_told, told_of};
 
 use cash_base::{Element, Slot, Span, write_number};
 use cash_tree::{BinaryOp, Expr, ExprKind, StmtKind, Ty, TypedContract};
@@ -64,7 +64,7 @@ impl Emitter {
         span: Span,
     ) -> Result<(), AllocError>
         requires { digits * unit < 2 ^ 63 }
-        ensures emits { OnOk result (Emits self.old self.new depth (kind_value (ExprKind-F.Int digits unit) span)) }
+        ensures emits { OnOk result (Emits self.old self.new depth (kind_computed (ExprKind-F.Int digits unit) span)) }
         ensures belong { OnOk result (are_rows_of self.old.statement self.new.rows.items
             ≡ are_rows_of self.old.statement self.old.rows.items) }
         ensures count { OnOk result (length self.new.rows.items ≤ length self.old.rows.items + 2) }
@@ -82,7 +82,7 @@ impl Emitter {
     fn name(&mut self, slot: Slot, depth: usize, span: Span) -> Result<(), AllocError>
         requires known { slot.0 < self.old.params }
         requires room { depth ≤ 1000 }
-        ensures emits { OnOk result (Emits self.old self.new depth (kind_value (ExprKind-F.Name slot) span)) }
+        ensures emits { OnOk result (Emits self.old self.new depth (kind_computed (ExprKind-F.Name slot) span)) }
         ensures belong { OnOk result (are_rows_of self.old.statement self.new.rows.items
             ≡ are_rows_of self.old.statement self.old.rows.items) }
         ensures count { OnOk result (length self.new.rows.items ≤ length self.old.rows.items + 2) }
@@ -98,7 +98,7 @@ impl Emitter {
     }
 
     fn operator(&mut self, op: BinaryOp, span: Span) -> Result<(), AllocError>
-        requires { IsTrue (has_meaning op) }
+        requires { IsTrue (has_code op) }
         ensures rows { OnOk result (self.new.rows.items
             ≡ self.old.rows.items ++ row (Do (record { 0 = 0x9c })) span self.old.statement ∷ []) }
         ensures told { OnOk result (doings self.new.rows.items ≡ doings self.old.rows.items ++ span ∷ []) }
@@ -118,9 +118,9 @@ impl Emitter {
 
     /// The value of an expression, above so many operands.
     fn expression(&mut self, e: &Expr<Slot, Ty>, depth: usize) -> Result<(), AllocError>
-        requires runnable { IsTrue (is_runnable e.now self.old.params) }
+        requires emitted { IsTrue (can_emit e.now self.old.params) }
         requires room { depth + nodes e.now ≤ 1000 }
-        ensures emits { OnOk result (Emits self.old self.new depth (value_of e.now)) }
+        ensures emits { OnOk result (Emits self.old self.new depth (computed e.now)) }
         ensures belong { OnOk result (are_rows_of self.old.statement self.new.rows.items
             ≡ are_rows_of self.old.statement self.old.rows.items) }
         ensures count { OnOk result (length self.new.rows.items ≤ length self.old.rows.items + 2 * nodes e.now) }
@@ -162,8 +162,8 @@ impl Emitter {
 ///
 /// Each operand is pushed or copied, the comparison is left as the only element. A row's `checking` is the span of the
 /// statement, and its `doing` that of the operand or comparison; what drops a parameter has the statement's as both. The
-/// contract has no parameters of its own and one function, of at most 16 parameters in the slots from 0, whose one statement is
-/// a `require` of `==` over parameters and literals below 2^63, of at most 64 nodes. The only error is that memory ran out.
+/// contract has no parameters of its own and one function, of at most 16 parameters in the slots from 0, whose one statement
+/// requires that two ints are equal, each a parameter or a literal. The only error is that memory ran out.
 #[tactic(auto, using(crate::proofs::Decided::decided))]
 pub fn emit(alloc: Global, contract: &TypedContract) -> Result<Vec<Spanned>, AllocError>
     requires { IsEmittable contract.now }

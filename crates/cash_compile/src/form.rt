@@ -1,21 +1,15 @@
 //! The form of contract that is built so far.
 
 ghost use Rattle.std.specs.Prelude.{◌≡◌, ◌≤◌, ◌+◌, length};
-ghost use Rattle.source_meaning.specs.Runnable;
 ghost use Rattle.cash_compile.specs.Form;
 ghost use Rattle.cash_compile.specs.Form.{opened};
 
 use cash_base::Slot;
 use cash_tree::{BinaryOp, Expr, ExprKind, Function, Param, Stmt, StmtKind, Ty, TypedContract};
-
-fn is_int(ty: &Ty) -> bool
-    ensures { result ≡ Runnable.is_int ty.now }
-{
-    matches!(ty, Ty::Int)
-}
+use form_tables::is_int;
 
 fn are_ints(params: &[Param<Slot>]) -> bool
-    ensures { result ≡ Runnable.are_ints params.now }
+    ensures { result ≡ Form.are_ints params.now }
 {
     params.iter().all(|param| is_int(&param.ty))
 }
@@ -45,9 +39,9 @@ fn are_few_ints(params: &[Param<Slot>]) -> bool
 }
 
 /// Whether it is one of so many parameters, or a number of at most 16.
-#[tactic(auto, unfolding(crate::specs::Form::is_operand))]
-fn is_operand(count: usize, operand: &Expr<Slot, Ty>) -> bool
-    ensures { result ≡ Form.is_operand count (opened operand.now.kind) }
+#[tactic(auto, unfolding(crate::specs::Form::is_parameter_or_number))]
+fn is_parameter_or_number(count: usize, operand: &Expr<Slot, Ty>) -> bool
+    ensures { result ≡ Form.is_parameter_or_number count (opened operand.now.kind) }
 {
     match &operand.kind {
         ExprKind::Name(slot) => usize::from(slot.0) < count,
@@ -57,6 +51,14 @@ fn is_operand(count: usize, operand: &Expr<Slot, Ty>) -> bool
         },
         _ => false,
     }
+}
+
+/// Whether it is that and an `int`, as it always is in a contract of the types.
+#[tactic(auto, unfolding(crate::specs::Form::is_operand))]
+fn is_operand(count: usize, operand: &Expr<Slot, Ty>) -> bool
+    ensures { result ≡ Form.is_operand count operand.now }
+{
+    is_int(&operand.ty) && is_parameter_or_number(count, operand)
 }
 
 /// Whether it says that two operands are equal.
@@ -102,8 +104,8 @@ fn is_function(function: &Function<Slot, Ty>) -> bool
 }
 
 /// Whether a contract is of the form: no parameter of the constructor; one function with at most 16 parameters, each an
-/// `int`, in the slots from 0 in order; its body is one `require` of `==` over two operands. An operand is one of the
-/// parameters, or a number of at most 16, its unit counted in.
+/// `int`, in the slots from 0 in order; its body is one `require` of `==` over two operands. An operand is an `int`, one of
+/// the parameters or a number of at most 16, its unit counted in.
 #[tactic(auto, unfolding(crate::specs::Form::is_equality))]
 pub fn is_equality(contract: &TypedContract) -> bool
     ensures { result ≡ Form.is_equality contract.now }

@@ -1,8 +1,8 @@
 -- A report of a program that is correct for a contract tells of the run of the source too.
-use Rattle.std.proofs.Common.{◌≡◌, ◌≢◌, ℕ, ◌+◌, ◌≤◌, Bool, true, false, cond, List, [], ◌∷◌, length, map, Option, Some, None, Result, Ok, Err, inl, inr, refl, sym, ap, ◌∙◌, subst, arith}
+use Rattle.std.proofs.Common.{◌≡◌, ◌≢◌, ℕ, ◌≤◌, Bool, true, false, cond, List, [], ◌∷◌, length, map, Option, Some, Result, Ok, Err, inl, inr, refl, sym, ap, ◌∙◌, subst, arith}
 use Rattle.std.specs.Prelude.{slice_get, nat_le, ◌==◌}
 use Rattle.std.specs.List.{AllByRecursion}
-use Rattle.std.proofs.lemmas.Bool.{eqb-true, eq-eqb, leb-true, le-leb, false≢true}
+use Rattle.std.proofs.lemmas.Bool.{eq-eqb, le-leb, false≢true}
 use Rattle.std.proofs.lemmas.List.{length-map}
 use Rattle.cash_base.specs.Failing.{◌>>=◌}
 use Rattle.cash_base.specs.Element.{IsElement}

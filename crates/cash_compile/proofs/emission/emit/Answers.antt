@@ -1,7 +1,7 @@
 use Rattle.std.proofs.Common.{◌≡◌, ◌∙◌, ◌≤◌, ◌+◌, ◌*◌, length, true, subst, ap, arith}
 use Rattle.std.proofs.lemmas.Grind.{common_steps}
 use Rattle.cash_base.specs.declared.place.Span.{Span}
-use Rattle.source_meaning.specs.Runnable.{nodes}
+use Rattle.cash_tree.specs.Nodes.{nodes}
 use Rattle.cash_compile.specs.Rows.{doings, are_rows_of, code_size}
 use Rattle.cash_compile.specs.Emission.{told_of}
 use Rattle.cash_compile.proofs.Decided.{are_few, rows_placed}
