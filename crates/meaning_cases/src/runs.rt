@@ -44,8 +44,14 @@ fn outcome(
     let contract = contract_of(alloc, source)?;
     let ctor = elements_of(alloc, spend.ctor.as_slice())?;
     let function = contract.functions.get(place).context("no function there")?;
-    ensure!(contract.params.len() == ctor.len(), "other values are needed");
-    ensure!(function.params.len() == args.len(), "other arguments are needed");
+    ensure!(
+        contract.params.len() == ctor.len(),
+        "other values are needed"
+    );
+    ensure!(
+        function.params.len() == args.len(),
+        "other arguments are needed"
+    );
     let Ok(context) = fill(alloc, &spend.frame, &[], &[]) else {
         bail!("memory ran out");
     };

@@ -1,0 +1,14 @@
+pub mod Calm
+pub mod Holds
+pub mod Types
+pub mod Looks
+pub mod Operators
+pub mod Calls
+pub mod View
+pub mod Casts
+pub mod Expressions
+pub mod Scopes
+pub mod Parts
+pub mod Statements
+pub mod Whole
+pub mod Rooms
