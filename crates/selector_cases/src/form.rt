@@ -90,7 +90,7 @@ pub fn form(alloc: Global, functions: usize, ctors: usize) -> Result<String> {
         "marks elsewhere"
     };
     let (bytes, opcodes) = weight_of(rows);
-    let is_light = bytes <= 15 * functions && opcodes <= 7 * functions;
+    let is_light = bytes <= functions.wrapping_mul(15) && opcodes <= functions.wrapping_mul(7);
     let weight = if is_light { "light" } else { "heavy" };
     Ok(format!(in alloc; "{order}, {kept}, {weight}")?)
 }

@@ -27,7 +27,7 @@ const REST: [u8; 1] = [0x7f];
 /// Whether the stack is what a function leaves: its number, and below it so many elements and the rest.
 fn function_on(stack: &[Vec<u8>], ctors: usize) -> Option<u8> {
     let (top, below) = stack.split_last()?;
-    let as_handed_in = below.len() == ctors + 1;
+    let as_handed_in = below.len() == ctors.wrapping_add(1);
     if !as_handed_in || !below.iter().all(|e| e.as_slice() == REST.as_slice()) {
         return None;
     }
