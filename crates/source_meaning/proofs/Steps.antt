@@ -247,10 +247,6 @@ pub size_count : Option TypedExpr → ℕ
 size_count None = 0
 size_count (Some b) = node_count b
 
-pub size_counted : (b : TypedExpr) → size_count (Some b) ≡ node_count b
-unfolding size_count
-size_counted b = refl
-
 pub any_cast_counted : (to : Ty) (a : TypedExpr) (size : Option TypedExpr) → kind_count (exprs.Cast to a size) ≡ node_count a + size_count size + 1
 unfolding size_count
 any_cast_counted to a None = cast_counted to a

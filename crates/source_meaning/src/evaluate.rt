@@ -30,12 +30,34 @@ fn untyped(span: Span) -> Failure
     Failure { span, cause }
 }
 
+/// A law: a cast has more nodes than its value.
+fn cast_is_counted(
+    e: &Expr<Slot, Ty>,
+    to: &Ty,
+    value: &Boxed<Expr<Slot, Ty>>,
+    size: &Option<Boxed<Expr<Slot, Ty>>>,
+)
+    requires { e.now.kind ≡ exprs.Cast to.now value.now size.now }
+    ensures { node_count value.now + 1 ≤ kind_count e.now.kind }
+{}
+
+/// A law: a cast with a size has one node more than its parts.
+fn sized_cast_is_counted(
+    e: &Expr<Slot, Ty>,
+    to: &Ty,
+    value: &Boxed<Expr<Slot, Ty>>,
+    size: &Boxed<Expr<Slot, Ty>>,
+)
+    requires { e.now.kind ≡ exprs.Cast to.now value.now (Some size.now) }
+    ensures { node_count value.now + node_count size.now + 1 ≡ kind_count e.now.kind }
+{}
+
 impl Operands {
     /// Puts what an expression gives, and answers how many values that are.
     ///
     /// It calls itself as deep as the expression is, so no element is in a local variable here, and most forms have a function of
     /// their own, whose parts stand in no other frame.
-    #[tactic(auto, using(crate::proofs::Steps::int_gives, crate::proofs::Steps::bool_gives, crate::proofs::Steps::hex_gives, crate::proofs::Steps::text_gives, crate::proofs::Steps::date_gives, crate::proofs::Steps::name_gives, crate::proofs::Steps::array_gives, crate::proofs::Steps::look0_gives, crate::proofs::Steps::cast_gives, crate::proofs::Steps::sized_cast_gives, crate::proofs::Steps::any_cast_counted, crate::proofs::Steps::size_counted, crate::proofs::Steps::int_counted, crate::proofs::Steps::bool_counted, crate::proofs::Steps::hex_counted, crate::proofs::Steps::text_counted, crate::proofs::Steps::date_counted, crate::proofs::Steps::name_counted, crate::proofs::Steps::array_counted, crate::proofs::Steps::look0_counted, crate::proofs::Steps::unary_counted, crate::proofs::Steps::binary_counted, crate::proofs::Steps::length_counted, crate::proofs::Steps::reverse_counted, crate::proofs::Steps::split_counted, crate::proofs::Steps::index_counted, crate::proofs::Steps::look_at_counted, crate::proofs::Steps::call_counted, crate::proofs::Steps::new_counted))]
+    #[tactic(auto, using(crate::proofs::Steps::int_gives, crate::proofs::Steps::bool_gives, crate::proofs::Steps::hex_gives, crate::proofs::Steps::text_gives, crate::proofs::Steps::date_gives, crate::proofs::Steps::name_gives, crate::proofs::Steps::array_gives, crate::proofs::Steps::look0_gives, crate::proofs::Steps::cast_gives, crate::proofs::Steps::sized_cast_gives, crate::proofs::Steps::int_counted, crate::proofs::Steps::bool_counted, crate::proofs::Steps::hex_counted, crate::proofs::Steps::text_counted, crate::proofs::Steps::date_counted, crate::proofs::Steps::name_counted, crate::proofs::Steps::array_counted, crate::proofs::Steps::look0_counted, crate::proofs::Steps::unary_counted, crate::proofs::Steps::binary_counted, crate::proofs::Steps::length_counted, crate::proofs::Steps::reverse_counted, crate::proofs::Steps::split_counted, crate::proofs::Steps::index_counted, crate::proofs::Steps::look_at_counted, crate::proofs::Steps::call_counted, crate::proofs::Steps::new_counted))]
     #[cycle(expression)]
     pub fn evaluate(
         &mut self,
@@ -83,6 +105,7 @@ impl Operands {
             ExprKind::Split(a, b) => self.on_split(e, a, b, names, world),
             ExprKind::Index(a, number) => self.on_index(e, a, *number, names, world),
             ExprKind::Cast { to, value, size } => {
+                cast_is_counted(e, to, value, size);
                 self.one(value.get(), names, world)?;
                 match size {
                     None => {
@@ -91,6 +114,7 @@ impl Operands {
                         Ok(Width::One)
                     }
                     Some(size) => {
+                        sized_cast_is_counted(e, to, value, size);
                         self.one(size.get(), names, world)?;
                         self.binary(BinaryForm::Is(Op2::Pad), span)?;
                         Ok(Width::One)

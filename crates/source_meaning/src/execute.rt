@@ -1,6 +1,6 @@
 //! What statements do, from the first on.
 
-ghost use Rattle.std.specs.Prelude.{◌≡◌, ◌≤◌, map, IsTrue, IfOk, IfErr, OnOk, Ok, Err, []};
+ghost use Rattle.std.specs.Prelude.{◌≡◌, ◌≤◌, map, IsTrue, IfOk, IfErr, OnOk, Ok, Err, Some, []};
 ghost use Rattle.cash_tree.specs.declared.StmtKind.TheVariants as stmts;
 ghost use Rattle.source_meaning.specs.Meaning.{block, element, env_after, env_after_all, kind_leaves, value_of};
 ghost use Rattle.source_meaning.specs.Names.{env_of};
@@ -13,6 +13,34 @@ use crate::outcome::Failure;
 use crate::world::World;
 use cash_base::{Cause, Slot, Span};
 use cash_tree::{Expr, Param, Stmt, StmtKind, Ty};
+use sqlite_items::Items;
+
+/// A law: the test and the first block of an `if` with places have places.
+fn parts_have_room(
+    s: &Stmt<Slot, Ty>,
+    test: &Expr<Slot, Ty>,
+    yes: &Items<Stmt<Slot, Ty>>,
+    no: &Option<Items<Stmt<Slot, Ty>>>,
+)
+    requires kind { s.now.kind ≡ stmts.If test.now yes.now no.now }
+    requires room { IsTrue (kind_has_room s.now.kind) }
+    ensures test { node_count test.now ≤ 1000 }
+    ensures block { IsTrue (all_of (map has_room yes.now)) }
+{}
+
+/// A law: so has the other block.
+fn other_has_room(
+    s: &Stmt<Slot, Ty>,
+    test: &Expr<Slot, Ty>,
+    yes: &Items<Stmt<Slot, Ty>>,
+    no: &Option<Items<Stmt<Slot, Ty>>>,
+    other: &Items<Stmt<Slot, Ty>>,
+)
+    requires kind { s.now.kind ≡ stmts.If test.now yes.now no.now }
+    requires other { no.now ≡ Some other.now }
+    requires room { IsTrue (kind_has_room s.now.kind) }
+    ensures { IsTrue (all_of (map has_room other.now)) }
+{}
 
 impl Operands {
     /// Does a statement: it gives names their elements, or fails.
@@ -63,14 +91,16 @@ impl Operands {
             StmtKind::Age { value } => self.on_age(s, value, names, world),
             StmtKind::Require { value } => self.on_require(s, value, names, world),
             StmtKind::If { test, yes, no } => {
+                parts_have_room(s, test, yes, no);
                 if self.is_met(test, names, world)? {
                     self.run_block(yes.as_slice(), names, world)?;
                     return Ok(());
                 }
                 match no {
                     None => Ok(()),
-                    Some(no) => {
-                        self.run_block(no.as_slice(), names, world)?;
+                    Some(other) => {
+                        other_has_room(s, test, yes, no, other);
+                        self.run_block(other.as_slice(), names, world)?;
                         Ok(())
                     }
                 }

@@ -8,30 +8,11 @@ use Rattle.form_tables.specs.declared.forms.CallForm.TheVariants.{CheckMulti}
 use Rattle.source_meaning.specs.declared.outcome.Failure.{Failure}
 use Rattle.source_meaning.specs.Meaning.{One, Node, Value, element, form_value, items_of, node_of, value_of, with_chunks}
 use Rattle.source_meaning.specs.Names.{env_of}
-use Rattle.source_meaning.specs.Runnable.{node_count, kind_count}
+use Rattle.source_meaning.specs.Runnable.{node_count}
 use Rattle.source_meaning.specs.Stack.{top, pushed_all}
 use Rattle.source_meaning.proofs.Multi.{on_top, one_pushed, two_args, are_both, multi_given, sigs_failed, keys_failed}
-use Rattle.source_meaning.proofs.Steps.{some_node, size_count, size_counted, any_cast_counted, whole_listed, no_array_listed}
+use Rattle.source_meaning.proofs.Steps.{some_node, whole_listed, no_array_listed}
 use Rattle.source_meaning.proofs.operands.Operands.+expression.Goals as goal
-
-pub evaluate-one-requires : goal.evaluate-one-requires
-evaluate-one-requires t c =
-    let inside = c.get.ensures in
-    let a = c.in-Cast in
-    let count : kind_count c.args.e.now.kind ≡ node_count a.value + size_count a.size + 1 = ap kind_count a.is ∙ any_cast_counted a.to a.value a.size in
-    let here = ap node_count inside in
-    (first_of (omega arith, grind arith, search rules), omega arith)
-
-pub evaluate-one-requires-in-Some : goal.evaluate-one-requires-in-Some
-evaluate-one-requires-in-Some t c =
-    let inside = c.get-in-Some.ensures in
-    let a = c.in-Cast in
-    let count : kind_count c.args.e.now.kind ≡ node_count a.value + size_count a.size + 1 = ap kind_count a.is ∙ any_cast_counted a.to a.value a.size in
-    let other : size_count a.size ≡ node_count c.in-Some.size = ap size_count c.in-Some.is ∙ size_counted c.in-Some.size in
-    let here = ap node_count inside in
-    let height = c.in_ok-one-in-Cast.ensures.height in
-    let some = c.in_ok-one-in-Cast.ensures.some in
-    (first_of (omega arith, grind arith, search rules), omega arith)
 
 pub all-loop-part-preserved : goal.all-loop-part-preserved
 all-loop-part-preserved t c =

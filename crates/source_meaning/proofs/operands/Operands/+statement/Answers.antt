@@ -1,13 +1,9 @@
-use Rattle.std.proofs.Common.{◌≡◌, List, [], map, ap, sym, ◌∙◌, subst, arith, rules}
-use Rattle.std.specs.Prelude.{Err, IsTrue, unwrap_or}
+use Rattle.std.proofs.Common.{◌≡◌, map, rules}
+use Rattle.std.specs.Prelude.{Err}
 use Rattle.source_meaning.specs.Meaning.{env_after, kind_leaves}
 use Rattle.source_meaning.specs.Names.{env_of}
-use Rattle.source_meaning.specs.Runnable.{all_of, has_room}
-use Rattle.source_meaning.proofs.StmtSteps.{TypedStmt, block_cut, if_taken, if_passed, if_other, if_fails, of_if}
+use Rattle.source_meaning.proofs.StmtSteps.{block_cut, if_taken, if_passed, if_other, if_fails}
 use Rattle.source_meaning.proofs.operands.Operands.+statement.Goals as goal
-
-pub on_kind-is_met-requires-clause-places : goal.on_kind-is_met-requires-clause-places
-on_kind-is_met-requires-clause-places t c = (of_if c.args.s.now.kind c.in-If.test c.in-If.yes c.in-If.no c.in-If.is c.requires.room).test_fits
 
 pub on_kind-returns-in_err-is_met-in-If-clause-err : goal.on_kind-returns-in_err-is_met-in-If-clause-err
 on_kind-returns-in_err-is_met-in-If-clause-err t c =
@@ -16,12 +12,6 @@ on_kind-returns-in_err-is_met-in-If-clause-err t c =
     let failed : kind_leaves c.args.world.now s.kind s.span env ≡ Err c.in_err-is_met-in-If.field-0.0 =
     if_fails c.args.world.now c.in-If.test c.in-If.yes c.in-If.no s.span env s.kind c.in_err-is_met-in-If.field-0.0 c.in-If.is c.in_err-is_met-in-If.ensures.err in
     search rules
-
-pub on_kind-run_block-requires : goal.on_kind-run_block-requires
-on_kind-run_block-requires t c =
-    let inside = c.as_slice.ensures in
-    let places = of_if c.args.s.now.kind c.in-If.test c.in-If.yes c.in-If.no c.in-If.is c.requires.room in
-    (first_of (omega arith, grind arith, search rules), subst (λ (l : List TypedStmt). IsTrue (all_of (map has_room l))) (sym inside) places.block_fits)
 
 pub on_kind-returns-in_err-run_block-in-If-clause-err : goal.on_kind-returns-in_err-run_block-in-If-clause-err
 on_kind-returns-in_err-run_block-in-If-clause-err t c =
@@ -42,20 +32,13 @@ on_kind-returns-then-branch-clause-ok t c =
     let taken = if_taken c.args.world.now c.in-If.test c.in-If.yes c.in-If.no s.span env s.kind c.in_ok-is_met-in-If.field-0 c.in-If.is c.in_ok-is_met-in-If.ensures.value c.if-branch.true in
     cc
 
-pub on_kind-run_block-requires-in-Some : goal.on_kind-run_block-requires-in-Some
-on_kind-run_block-requires-in-Some t c =
-    let inside = c.as_slice-in-Some.ensures in
-    let places = of_if c.args.s.now.kind c.in-If.test c.in-If.yes c.in-If.no c.in-If.is c.requires.room in
-    let other : IsTrue (all_of (map has_room c.in-Some.no)) = subst (λ o. IsTrue (all_of (map has_room (unwrap_or o [])))) c.in-Some.is places.other_fits in
-    (first_of (omega arith, grind arith, search rules), subst (λ (l : List TypedStmt). IsTrue (all_of (map has_room l))) (sym inside) other)
-
 pub on_kind-returns-in_err-run_block-in-Some-clause-err : goal.on_kind-returns-in_err-run_block-in-Some-clause-err
 on_kind-returns-in_err-run_block-in-Some-clause-err t c =
     let s = c.args.s.now in
     let env = env_of c.args.names.now in
     let block_failed = c.in_err-run_block-in-Some.ensures.err in
     let inside = c.as_slice-in-Some.ensures in
-    let taken = if_other c.args.world.now c.in-If.test c.in-If.yes c.in-Some.no c.in-If.no s.span env s.kind c.in_ok-is_met-in-If.field-0 c.in-If.is c.in-Some.is c.in_ok-is_met-in-If.ensures.value c.if-branch.false in
+    let taken = if_other c.args.world.now c.in-If.test c.in-If.yes c.in-Some.other c.in-If.no s.span env s.kind c.in_ok-is_met-in-If.field-0 c.in-If.is c.in-Some.is c.in_ok-is_met-in-If.ensures.value c.if-branch.false in
     let failed : kind_leaves c.args.world.now s.kind s.span env ≡ Err c.in_err-run_block-in-Some.field-0.0 = cc in
     search rules
 
@@ -70,7 +53,7 @@ on_kind-returns-in_ok-run_block-in-Some-clause-ok t c =
     let env = env_of c.args.names.now in
     let done = c.in_ok-run_block-in-Some.ensures.ok in
     let inside = c.as_slice-in-Some.ensures in
-    let taken = if_other c.args.world.now c.in-If.test c.in-If.yes c.in-Some.no c.in-If.no s.span env s.kind c.in_ok-is_met-in-If.field-0 c.in-If.is c.in-Some.is c.in_ok-is_met-in-If.ensures.value c.if-branch.false in
+    let taken = if_other c.args.world.now c.in-If.test c.in-If.yes c.in-Some.other c.in-If.no s.span env s.kind c.in_ok-is_met-in-If.field-0 c.in-If.is c.in-Some.is c.in_ok-is_met-in-If.ensures.value c.if-branch.false in
     cc
 
 pub run_block-returns-clause-ok : goal.run_block-returns-clause-ok
