@@ -4,7 +4,6 @@ use crate::sources::{LONGEST, contract_of};
 use anyhow::{Context, Result, bail, ensure};
 use cash_base::element::copy_of;
 use cash_base::{Element, TypedValue, write_number};
-use form_tables::truth_element;
 use source_meaning::{SourceOutcome, SourceRoom, World};
 use span_map::line_col;
 use spend_json::{Choice, SpendFile};
@@ -18,7 +17,8 @@ fn element_of(value: &TypedValue) -> Result<Element> {
             ensure!(*number != i64::MIN, "a number out of range");
             Ok(write_number(*number))
         }
-        TypedValue::Bool(truth) => Ok(truth_element(*truth)),
+        TypedValue::Bool(true) => Ok(copy_of(&[1])),
+        TypedValue::Bool(false) => Ok(Element::new()),
         TypedValue::Raw(element) => Ok(copy_of(element.as_slice())),
         TypedValue::Text(_) => bail!("a text is no value here"),
     }
