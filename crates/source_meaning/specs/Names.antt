@@ -1,5 +1,5 @@
 -- How the room holds the elements of names.
-use Rattle.std.specs.Prelude.{ℕ, Bool, false, if◌then◌else◌, List, [], slice_index_or, Option, Some, None}
+use Rattle.std.specs.Prelude.{ℕ, Bool, false, if◌then◌else◌, List, [], slice_index_or, Some, None}
 use Rattle.cash_base.specs.declared.place.Slot.{Slot}
 use Rattle.source_meaning.specs.Meaning.{Env}
 

@@ -1,5 +1,5 @@
 -- The values of a run, the latest first, and how many of them an expression leaves.
-use Rattle.std.specs.Prelude.{ℕ, Bool, List, [], ◌∷◌, Result, Ok, Err}
+use Rattle.std.specs.Prelude.{ℕ, Bool, List, [], ◌∷◌, Result, Ok}
 use Rattle.cash_base.specs.Failing.{◌>>=◌}
 use Rattle.cash_base.specs.Number.{truth_of}
 use Rattle.source_meaning.specs.declared.operands.Width.{Width}
