@@ -1,0 +1,12 @@
+pub mod Puts
+pub mod Standing
+pub mod Single
+pub mod Acts
+pub mod ReadySteps
+pub mod Readies
+pub mod Lowered
+pub mod Arrays
+pub mod ScopedSteps
+pub mod Simple
+pub mod Blocks
+pub mod Paths
