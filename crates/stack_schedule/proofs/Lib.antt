@@ -1,0 +1,12 @@
+pub mod Same
+pub mod AtKinds
+pub mod Instrs
+pub mod Operations
+pub mod Names
+pub mod Choices
+pub mod Blocks
+pub mod Arms
+pub mod Chosen
+pub mod Joins
+pub mod Paths
+pub mod Ways

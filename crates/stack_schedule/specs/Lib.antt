@@ -1,0 +1,4 @@
+pub mod Lower
+pub mod Operations
+pub mod Endings
+pub mod Schedule

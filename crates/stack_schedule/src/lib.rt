@@ -1,0 +1,4 @@
+//! The scheduler: from slot code to stack code, each value moved at its last read.
+#![tactic(auto)]
+
+pub mod low;
