@@ -8,7 +8,11 @@ ghost use Rattle.bch_vm.specs.Law.{locking_script};
 ghost use Rattle.unlocker.specs.declared.BuildFault.TheVariants as faults;
 ghost use Rattle.unlocker.specs.Scripts.{handed_in};
 ghost use Rattle.unlocker.specs.Building;
-ghost use Rattle.unlocker.specs.Building.{count_check, built_redeem, built_unlocking};
+ghost use Rattle.unlocker.specs.Building.{count_check, built_redeem, built_unlocking, built_pushes};
+
+mod values;
+
+pub use values::element_of;
 
 use artifact_json::Program;
 use artifact_json::laws::spelled_code_is_encoded;
@@ -16,6 +20,7 @@ use cash_base::element::copy_of;
 use cash_base::{Element, MAX_ELEMENT_LEN, Memory, write_number};
 use ripemd160::ripemd160;
 use script_codec::{Instr, encode};
+use bch_vm::LONGEST_SCRIPT;
 use sha2::{Digest, Sha256};
 use std::alloc::{AllocError, AllocFailed, Global};
 use thiserror::Error;
@@ -31,15 +36,44 @@ pub enum BuildFault {
         /// How many elements are given.
         found: u32,
     },
-    /// The contract has no function of this index.
+    /// The contract has no such function, or none is named and it has several.
     #[error("there is no such function")]
     NoSuchFunction,
+    /// A value isn't of the kind that its parameter's type takes, or it is no hexadecimal where bytes are wanted.
+    #[error("the value is none of its parameter's type")]
+    WrongValue,
+    /// A `bytesN` has other than N bytes.
+    #[error("{wanted} bytes are wanted, and {found} are given")]
+    WrongLength {
+        /// How many are wanted.
+        wanted: u32,
+        /// How many are given.
+        found: u32,
+    },
+    /// A number is below -9,223,372,036,854,775,807.
+    #[error("the number is too small for an int")]
+    IntRange,
+    /// A value has more than 520 bytes.
+    #[error("the value has {bytes} bytes, and an element has at most 520")]
+    TooLong {
+        /// How many it has.
+        bytes: u32,
+    },
     /// The redeem script has more than 520 bytes.
     #[error("the redeem script has {bytes} bytes, and at most 520 can be pushed")]
     RedeemTooLong {
         /// How many it has.
         bytes: u32,
     },
+    /// The unlocking script has more than 10,000 bytes.
+    #[error("the unlocking script has {bytes} bytes, and a script has at most 10,000")]
+    UnlockTooLong {
+        /// How many it has.
+        bytes: u32,
+    },
+    /// There are pushes where a call of a function is wanted.
+    #[error("pushes are given, and a call of a function is wanted")]
+    PushesGiven,
     /// Memory ran out.
     #[error("out of memory")]
     Memory,
@@ -136,8 +170,28 @@ pub fn unlocking(
     Ok(encode(alloc, code.as_slice())?)
 }
 
+/// The unlocking script that pushes these elements in order, so that the last ends up on top, and then a redeem script of at
+/// most 520 bytes, each by its minimal push.
+///
+/// `UnlockTooLong` comes exactly where it has more than 10,000 bytes, as no script may have; memory may be wanting at any time.
+pub fn push_all(alloc: Global, elements: &[Element], redeem: &[u8]) -> Result<Vec<u8>, BuildFault>
+    requires { length redeem.now ≤ 520 }
+    ensures built { IfOk result (λ script. built_pushes (map (λ e. e.items) elements.now) redeem.now ≡ Ok script.items) }
+    ensures refused { IfErr result (λ fault. (fault ≡ faults.Memory)
+        ⊎ (built_pushes (map (λ e. e.items) elements.now) redeem.now ≡ Err fault)) }
+{
+    let mut code = pushes_in_order(alloc, elements)?;
+    code.push(Instr::Push(copy_of(redeem)))?;
+    let script = encode(alloc, code.as_slice())?;
+    if script.len() > LONGEST_SCRIPT {
+        let bytes = capped(script.len());
+        return Err(BuildFault::UnlockTooLong { bytes });
+    }
+    Ok(script)
+}
+
 /// A number of 32 bits, the greatest for a greater one.
-fn capped(n: usize) -> u32
+pub(crate) fn capped(n: usize) -> u32
     ensures { result ≡ Building.capped n }
 {
     if n <= 4_294_967_295 {
@@ -187,6 +241,19 @@ fn handed_pushes(
     let number = write_number(function as i64);
     prove!(number.len() <= MAX_ELEMENT_LEN);
     code.push(Instr::Push(number))?;
+    Ok(code)
+}
+
+/// The pushes of some elements, in order.
+#[tactic(auto, using(crate::proofs::Pushed::one_more, crate::proofs::Pushed::more_spelled))]
+fn pushes_in_order(alloc: Global, elements: &[Element]) -> Result<Vec<Instr>, Memory>
+    ensures pushed { IfOk result (λ code. code.items ≡ map push (map (λ e. e.items) elements.now)) }
+    ensures spelled { IfOk result (λ code. IsTrue (are_instructions code.items)) }
+{
+    let mut code = Vec::new(alloc);
+    for element in elements {
+        code.push(Instr::Push(copy_of(element.as_slice())))?;
+    }
     Ok(code)
 }
 
