@@ -107,7 +107,6 @@ abbrev pub store_deed : Bool → Slot → Span → Deed
 store_deed true slot doing world s = on_one doing s.operands (λ a rest. Ok (state rest (with_value slot a s.env)))
 store_deed false slot doing world s = drop_deed doing world s
 
-
 -- the operand is checked, and must be true
 abbrev pub check_deed : Span → Span → Deed
 check_deed doing checking world s = on_one doing s.operands (λ a rest. goes_on rest (checked checking a s.env))

@@ -18,9 +18,13 @@ use slot_liveness::live::contains;
 use std::alloc::{AllocError, Global};
 
 const NOP: Opcode = Opcode(0x61);
+
 pub const DROP: Opcode = Opcode(0x75);
+
 pub const NIP: Opcode = Opcode(0x77);
+
 const PICK: Opcode = Opcode(0x79);
+
 const ROLL: Opcode = Opcode(0x7a);
 
 /// The element of how deep a value lies.

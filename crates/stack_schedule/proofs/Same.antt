@@ -179,10 +179,13 @@ module _ (before after : Slots) (slot : Slot) (keep : Bool) (needed : after slot
 pub same_forget : (slot : Slot) (scope next : List Slot) (later : Slots) → ((t : Slot) → has t next ≡ true → (is_slot slot t ≡ false) × (has t scope ≡ true))
     → Same (live scope later) (live next later) (λ world s. Ok (state s.operands (without_value slot s.env))) nothing
 same_forget slot scope next later fewer = record {
-  ends = λ world s env h. (refl, λ t e.
-      let k = and_parts (has t next) (later t) e in
-      let f = fewer t k.0 in
-      ap (λ b. cond b None (s.env t)) f.0 ∙ h t (and_from (has t scope) (later t) f.1 k.1));
+  ends = λ world s env h. (
+    refl,
+    λ t e.
+        let k = and_parts (has t next) (later t) e in
+        let f = fewer t k.0 in
+        ap (λ b. cond b None (s.env t)) f.0 ∙ h t (and_from (has t scope) (later t) f.1 k.1),
+  );
 }
 
 -- ---- a choice

@@ -14,24 +14,37 @@ ghost use Rattle.stack_schedule.specs.Operations.{Started, Operates, Marks};
 ghost use Rattle.stack_schedule.specs.Endings.{MayEnd, Finishes, PathEnds, AllEnds};
 
 use cash_base::{Memory, Slot, Span};
+use element_ops::Op1;
 use script_codec::{Instr, Mark, Marked, Opcode, Spanned};
 use slot_code::{SlotFunction, SlotInstr, SlotKind};
-use slot_liveness::live::{copied, held_in, is_kept, is_later, is_over, kept_among, live_among, place};
+use slot_liveness::live::{
+    copied, held_in, is_kept, is_later, is_over, kept_among, live_among, place,
+};
 use sqlite_items::Items;
 use stack_emitter::emit::{DROP, Emitter, NIP};
-use element_ops::Op1;
-use stack_emitter::opcodes::{is_size, opcode1, opcode2, opcode3, opcode_of_look_at, opcode_of_look0};
+use stack_emitter::opcodes::{
+    is_size, opcode_of_look_at, opcode_of_look0, opcode1, opcode2, opcode3,
+};
 use std::alloc::{AllocError, Global};
 
 const IF: Opcode = Opcode(0x63);
+
 const ELSE: Opcode = Opcode(0x67);
+
 const ENDIF: Opcode = Opcode(0x68);
+
 const VERIFY: Opcode = Opcode(0x69);
+
 const SPLIT: Opcode = Opcode(0x7f);
+
 const SIZE: Opcode = Opcode(0x82);
+
 const CHECKSIG: Opcode = Opcode(0xac);
+
 const CHECKLOCKTIMEVERIFY: Opcode = Opcode(0xb1);
+
 const CHECKSEQUENCEVERIFY: Opcode = Opcode(0xb2);
+
 const CHECKDATASIG: Opcode = Opcode(0xba);
 
 /// What the blocks of a choice are begun with: the slots that are live after it, what is held in each block, the layout and the
@@ -205,12 +218,14 @@ impl Low {
                 Ok(())
             }
             SlotKind::Time => {
-                self.emitter.work(CHECKLOCKTIMEVERIFY, 1, 1, checking, checking)?;
+                self.emitter
+                    .work(CHECKLOCKTIMEVERIFY, 1, 1, checking, checking)?;
                 self.emitter.work(DROP, 1, 0, checking, checking)?;
                 Ok(())
             }
             SlotKind::Age => {
-                self.emitter.work(CHECKSEQUENCEVERIFY, 1, 1, checking, checking)?;
+                self.emitter
+                    .work(CHECKSEQUENCEVERIFY, 1, 1, checking, checking)?;
                 self.emitter.work(DROP, 1, 0, checking, checking)?;
                 Ok(())
             }
@@ -240,7 +255,8 @@ impl Low {
         ensures marks { self.new.marks ≡ self.old.marks }
     {
         let slots = Vec::from_slice(self.emitter.alloc, slots.as_slice())?;
-        self.emitter.branch(Instr::Do(opcode), slots, doing, checking)?;
+        self.emitter
+            .branch(Instr::Do(opcode), slots, doing, checking)?;
         Ok(())
     }
 

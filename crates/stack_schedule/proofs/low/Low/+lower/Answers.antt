@@ -88,4 +88,3 @@ lower_instr-leave-requires-clause-once t c =
 pub lower_instr-returns-in_ok-forget-in-End : goal.lower_instr-returns-in_ok-forget-in-End
 lower_instr-returns-in_ok-forget-in-End t c =
     does_end c.args.instr.now (later c.args.rest.now c.args.after.now) (hold c.args.body.now c.args.held.now) c.args.self.now c.mark.new.self (record { scope = c.mark.ensures.scope; outer = c.mark.ensures.outer; emitter = c.mark.ensures.emitter; seen = c.in_ok-mark.ensures.seen }) c.requires c.in-End.slot c.in-End.is c.forget.new.self _ c.in_ok-forget-in-End.ensures.emits c.in_ok-forget-in-End.ensures.place c.leave.ensures.emitter c.leave.ensures.scope c.leave.ensures.outer c.leave.ensures.marks
-
