@@ -225,9 +225,9 @@ no_chunks {code} {checking} {span} {e} other =
 data_is : (r : Result (List ℕ) Failure) → (r >>= λ whole. Ok (GivenOne whole)) ≡ (r >>= λ e. Ok (GivenOne e))
 data_is r = refl
 
-pub lowers_form_data : {old begun new : List SlotInstr} {checking span : Span} {a : TypedExpr} → begun ≡ old ++ instruction (lit data_front) span checking ∷ []
+form_data : {old begun new : List SlotInstr} {checking span : Span} {a : TypedExpr} → begun ≡ old ++ instruction (lit data_front) span checking ∷ []
     → LowersArray begun new checking span a → LowersForm old new checking span forms.HoldsData (a ∷ [])
-lowers_form_data {old} {begun} {new} {checking} {span} {a} first h =
+form_data {old} {begun} {new} {checking} {span} {a} first h =
     let front = code_put checking (λ world env. Ok data_front) (lit data_front) span (Some data_front) (bytes_acts data_front span checking) (bytes_stand data_front) in record {
       lowered = lowers (λ world env. form_value world span forms.HoldsData (node_of world env a ∷ [])) (λ known. form_ready forms.HoldsData (ready_node known a ∷ [])) (node_count a + 0 + 1)
           (grown1 old (instruction (lit data_front) span checking ∷ []) h.rows first h.grown) (h.code (instruction (lit data_front) span checking ∷ []) (λ world env. Ok data_front) (λ known. true) 1 front)
@@ -347,11 +347,11 @@ many_stands {checking} {slots} {a} {most} ta tb n m span an bm fits h =
           ∙ row_shape (kinds.CheckMulti n m) span checking (work (shape_many n m)) mid (with_operands (None ∷ p.operands) p) (steps.check_multi_stands n m) seen left;
     }
 
-pub lowers_form_sigs : {old m0 m1 m2 m3 m4 new : List SlotInstr} {checking span : Span} {a b : TypedExpr} {n m : ℕ}
+form_sigs : {old m0 m1 m2 m3 m4 new : List SlotInstr} {checking span : Span} {a b : TypedExpr} {n m : ℕ}
     → m0 ≡ old ++ instruction (lit []) span checking ∷ [] → LowersItems m0 m1 checking a n → m2 ≡ m1 ++ instruction (lit (minimal_bytes (pos n))) span checking ∷ []
     → LowersItems m2 m3 checking b m → m4 ≡ m3 ++ instruction (lit (minimal_bytes (pos m))) span checking ∷ [] → new ≡ m4 ++ instruction (kinds.CheckMulti n m) span checking ∷ []
     → ReadyForm forms.CheckMulti (a ∷ b ∷ []) → LowersForm old new checking span forms.CheckMulti (a ∷ b ∷ [])
-lowers_form_sigs {old} {m0} {m1} {m2} {m3} {m4} {new} {checking} {span} {a} {b} {n} {m} g0 ha g2 hb g4 g5 whole =
+form_sigs {old} {m0} {m1} {m2} {m3} {m4} {new} {checking} {span} {a} {b} {n} {m} g0 ha g2 hb g4 g5 whole =
     let fits : fit n m ≡ true = sym (ap (λ k. fit k (length (ready_items any_name b))) (ha.readies any_name) ∙ ap (fit n) (hb.readies any_name)) ∙ sigs_fit whole in
     let i = instruction (kinds.CheckMulti n m) span checking in
     let nb = minimal_bytes (pos n) in
@@ -390,3 +390,14 @@ lowers_form_sigs {old} {m0} {m1} {m2} {m3} {m4} {new} {checking} {span} {a} {b} 
           (λ known r. and_right (fit (length (ready_items known a)) (length (ready_items known b))) (all_of (ready_items known a) && all_of (ready_items known b)) r)
           (omega arith);
     }
+
+pub lowers_form_data : {old begun new : List SlotInstr} {checking span : Span} {a : TypedExpr} {args : List TypedExpr} → args ≡ (a ∷ []) → begun ≡ old ++ instruction (lit data_front) span checking ∷ []
+    → LowersArray begun new checking span a → LowersForm old new checking span forms.HoldsData args
+lowers_form_data {old} {begun} {new} {checking} {span} {a} {args} is first h = subst (LowersForm old new checking span forms.HoldsData) (sym is) (form_data first h)
+
+pub lowers_form_sigs : {old m0 m1 m2 m3 m4 new : List SlotInstr} {checking span : Span} {a b : TypedExpr} {n m : ℕ} {args : List TypedExpr} → args ≡ (a ∷ b ∷ [])
+    → m0 ≡ old ++ instruction (lit []) span checking ∷ [] → LowersItems m0 m1 checking a n → m2 ≡ m1 ++ instruction (lit (minimal_bytes (pos n))) span checking ∷ []
+    → LowersItems m2 m3 checking b m → m4 ≡ m3 ++ instruction (lit (minimal_bytes (pos m))) span checking ∷ [] → new ≡ m4 ++ instruction (kinds.CheckMulti n m) span checking ∷ []
+    → ReadyForm forms.CheckMulti args → LowersForm old new checking span forms.CheckMulti args
+lowers_form_sigs {old} {m0} {m1} {m2} {m3} {m4} {new} {checking} {span} {a} {b} {n} {m} {args} is g0 ha g2 hb g4 g5 whole =
+    subst (LowersForm old new checking span forms.CheckMulti) (sym is) (form_sigs g0 ha g2 hb g4 g5 (subst (ReadyForm forms.CheckMulti) is whole))

@@ -402,41 +402,41 @@ lowers_index {old} {mid} {new} {checking} {span} {kind} {a} {number} {width} is 
 
 -- ---- functions and instantiations
 
-pub lowers_form_one : {old mid new : List SlotInstr} {checking span : Span} {op : Op1} {a : TypedExpr} → LowersElement old mid checking a
+form_one : {old mid new : List SlotInstr} {checking span : Span} {op : Op1} {a : TypedExpr} → LowersElement old mid checking a
     → new ≡ mid ++ instruction (kinds.Do1 op) span checking ∷ [] → LowersForm old new checking span (forms.One op) (a ∷ [])
-lowers_form_one {old} {mid} {new} {checking} {span} {op} {a} h grown = record {
+form_one {old} {mid} {new} {checking} {span} {op} {a} h grown = record {
   lowered = lowers1 span (λ world env. form_value world span (forms.One op) (node_of world env a ∷ [])) (λ known. form_ready (forms.One op) (ready_node known a ∷ [])) (node_count a + 0 + 1)
       (kinds.Do1 op) (λ world x. at_span span (result1 op x)) (do1_acts op span checking) (steps.do1_stands op)
       (λ world env. refl) (λ known r. r) (omega arith) h grown;
 }
 
-pub lowers_form_two : {old mid far new : List SlotInstr} {checking span : Span} {op : Op2} {a b : TypedExpr} → LowersElement old mid checking a → LowersElement mid far checking b
+form_two : {old mid far new : List SlotInstr} {checking span : Span} {op : Op2} {a b : TypedExpr} → LowersElement old mid checking a → LowersElement mid far checking b
     → new ≡ far ++ instruction (kinds.Do2 op) span checking ∷ [] → LowersForm old new checking span (forms.Two op) (a ∷ b ∷ [])
-lowers_form_two {old} {mid} {far} {new} {checking} {span} {op} {a} {b} ha hb grown = record {
+form_two {old} {mid} {far} {new} {checking} {span} {op} {a} {b} ha hb grown = record {
   lowered = lowers2 span (λ world env. form_value world span (forms.Two op) (node_of world env a ∷ node_of world env b ∷ [])) (λ known. form_ready (forms.Two op) (ready_node known a ∷ ready_node known b ∷ [])) (node_count a + (node_count b + 0) + 1)
       (kinds.Do2 op) (λ world x y. at_span span (result2 op x y)) (do2_acts op span checking) (steps.do2_stands op)
       (λ world env. refl) (λ known r. r) (omega arith) ha hb grown;
 }
 
-pub lowers_form_sig : {old mid far new : List SlotInstr} {checking span : Span} {a b : TypedExpr} → LowersElement old mid checking a → LowersElement mid far checking b
+form_sig : {old mid far new : List SlotInstr} {checking span : Span} {a b : TypedExpr} → LowersElement old mid checking a → LowersElement mid far checking b
     → new ≡ far ++ instruction kinds.CheckSig span checking ∷ [] → LowersForm old new checking span forms.CheckSig (a ∷ b ∷ [])
-lowers_form_sig {old} {mid} {far} {new} {checking} {span} {a} {b} ha hb grown = record {
+form_sig {old} {mid} {far} {new} {checking} {span} {a} {b} ha hb grown = record {
   lowered = lowers2 span (λ world env. form_value world span forms.CheckSig (node_of world env a ∷ node_of world env b ∷ [])) (λ known. form_ready forms.CheckSig (ready_node known a ∷ ready_node known b ∷ [])) (node_count a + (node_count b + 0) + 1)
       kinds.CheckSig (λ world x y. at_span span (verdict_result (single_verdict world.verdicts Single x y []))) (check_sig_acts span checking) steps.check_sig_stands
       (λ world env. refl) (λ known r. r) (omega arith) ha hb grown;
 }
 
-pub lowers_form_three : {old mid far next new : List SlotInstr} {checking span : Span} {op : Op3} {a b c : TypedExpr} → LowersElement old mid checking a → LowersElement mid far checking b → LowersElement far next checking c
+form_three : {old mid far next new : List SlotInstr} {checking span : Span} {op : Op3} {a b c : TypedExpr} → LowersElement old mid checking a → LowersElement mid far checking b → LowersElement far next checking c
     → new ≡ next ++ instruction (kinds.Do3 op) span checking ∷ [] → LowersForm old new checking span (forms.Three op) (a ∷ b ∷ c ∷ [])
-lowers_form_three {old} {mid} {far} {next} {new} {checking} {span} {op} {a} {b} {c} ha hb hc grown = record {
+form_three {old} {mid} {far} {next} {new} {checking} {span} {op} {a} {b} {c} ha hb hc grown = record {
   lowered = lowers3 span (λ world env. form_value world span (forms.Three op) (node_of world env a ∷ node_of world env b ∷ node_of world env c ∷ [])) (λ known. form_ready (forms.Three op) (ready_node known a ∷ ready_node known b ∷ ready_node known c ∷ [])) (node_count a + (node_count b + (node_count c + 0)) + 1)
       (kinds.Do3 op) (λ world x y z. at_span span (result3 op x y z)) (do3_acts op span checking) (steps.do3_stands op)
       (λ world env. refl) (λ known r. r) (omega arith) ha hb hc grown;
 }
 
-pub lowers_form_data_sig : {old mid far next new : List SlotInstr} {checking span : Span} {a b c : TypedExpr} → LowersElement old mid checking a → LowersElement mid far checking b → LowersElement far next checking c
+form_data_sig : {old mid far next new : List SlotInstr} {checking span : Span} {a b c : TypedExpr} → LowersElement old mid checking a → LowersElement mid far checking b → LowersElement far next checking c
     → new ≡ next ++ instruction kinds.CheckData span checking ∷ [] → LowersForm old new checking span forms.CheckData (a ∷ b ∷ c ∷ [])
-lowers_form_data_sig {old} {mid} {far} {next} {new} {checking} {span} {a} {b} {c} ha hb hc grown = record {
+form_data_sig {old} {mid} {far} {next} {new} {checking} {span} {a} {b} {c} ha hb hc grown = record {
   lowered = lowers3 span (λ world env. form_value world span forms.CheckData (node_of world env a ∷ node_of world env b ∷ node_of world env c ∷ [])) (λ known. form_ready forms.CheckData (ready_node known a ∷ ready_node known b ∷ ready_node known c ∷ [])) (node_count a + (node_count b + (node_count c + 0)) + 1)
       kinds.CheckData (λ world x y z. at_span span (verdict_result (single_verdict world.verdicts DataSig x z y))) (check_data_acts span checking) steps.check_data_stands
       (λ world env. refl) (λ known r. r) (omega arith) ha hb hc grown;
@@ -448,11 +448,11 @@ lock_is : (r : Result (List ℕ) Failure) (span : Span) (lock : Lock)
 lock_is (Ok hash) span lock = refl
 lock_is (Err e) span lock = refl
 
-pub lowers_form_lock : {old begun mid far next new : List SlotInstr} {checking span : Span} {lock : Lock} {a : TypedExpr}
+form_lock : {old begun mid far next new : List SlotInstr} {checking span : Span} {lock : Lock} {a : TypedExpr}
     → begun ≡ old ++ instruction (lit (lock_front lock)) span checking ∷ [] → LowersElement begun mid checking a → far ≡ mid ++ instruction (kinds.Do2 Cat) span checking ∷ []
     → next ≡ far ++ instruction (lit (lock_back lock)) span checking ∷ [] → new ≡ next ++ instruction (kinds.Do2 Cat) span checking ∷ []
     → LowersForm old new checking span (forms.Locks lock) (a ∷ [])
-lowers_form_lock {old} {begun} {mid} {far} {next} {new} {checking} {span} {lock} {a} first h third fourth fifth =
+form_lock {old} {begun} {mid} {far} {next} {new} {checking} {span} {lock} {a} first h third fourth fifth =
     let front = code_put checking (λ world env. Ok (lock_front lock)) (lit (lock_front lock)) span (Some (lock_front lock)) (bytes_acts (lock_front lock) span checking) (bytes_stand (lock_front lock)) in
     let back = code_put checking (λ world env. Ok (lock_back lock)) (lit (lock_back lock)) span (Some (lock_back lock)) (bytes_acts (lock_back lock) span checking) (bytes_stand (lock_back lock)) in
     let half = code_op2 (kinds.Do2 Cat) span (λ world x y. at_span span (result2 Cat x y)) (do2_acts Cat span checking) (steps.do2_stands Cat) front (code_of h) in
@@ -465,6 +465,24 @@ lowers_form_lock {old} {begun} {mid} {far} {next} {new} {checking} {span} {lock}
           (λ world env. lock_is (element (value_of world env a)) span lock)
           (λ known r. and_intro (true && is_ready known a) true r refl) (omega arith);
     }
+
+pub lowers_form_one : {old mid new : List SlotInstr} {checking span : Span} {op : Op1} {a : TypedExpr} {args : List TypedExpr} → args ≡ (a ∷ []) → LowersElement old mid checking a → new ≡ mid ++ instruction (kinds.Do1 op) span checking ∷ [] → LowersForm old new checking span (forms.One op) args
+lowers_form_one {old} {mid} {new} {checking} {span} {op} {a} {args} is h0 h1 = subst (LowersForm old new checking span (forms.One op)) (sym is) (form_one h0 h1)
+
+pub lowers_form_two : {old mid far new : List SlotInstr} {checking span : Span} {op : Op2} {a b : TypedExpr} {args : List TypedExpr} → args ≡ (a ∷ b ∷ []) → LowersElement old mid checking a → LowersElement mid far checking b → new ≡ far ++ instruction (kinds.Do2 op) span checking ∷ [] → LowersForm old new checking span (forms.Two op) args
+lowers_form_two {old} {mid} {far} {new} {checking} {span} {op} {a} {b} {args} is h0 h1 h2 = subst (LowersForm old new checking span (forms.Two op)) (sym is) (form_two h0 h1 h2)
+
+pub lowers_form_sig : {old mid far new : List SlotInstr} {checking span : Span} {a b : TypedExpr} {args : List TypedExpr} → args ≡ (a ∷ b ∷ []) → LowersElement old mid checking a → LowersElement mid far checking b → new ≡ far ++ instruction kinds.CheckSig span checking ∷ [] → LowersForm old new checking span forms.CheckSig args
+lowers_form_sig {old} {mid} {far} {new} {checking} {span} {a} {b} {args} is h0 h1 h2 = subst (LowersForm old new checking span forms.CheckSig) (sym is) (form_sig h0 h1 h2)
+
+pub lowers_form_three : {old mid far next new : List SlotInstr} {checking span : Span} {op : Op3} {a b c : TypedExpr} {args : List TypedExpr} → args ≡ (a ∷ b ∷ c ∷ []) → LowersElement old mid checking a → LowersElement mid far checking b → LowersElement far next checking c → new ≡ next ++ instruction (kinds.Do3 op) span checking ∷ [] → LowersForm old new checking span (forms.Three op) args
+lowers_form_three {old} {mid} {far} {next} {new} {checking} {span} {op} {a} {b} {c} {args} is h0 h1 h2 h3 = subst (LowersForm old new checking span (forms.Three op)) (sym is) (form_three h0 h1 h2 h3)
+
+pub lowers_form_data_sig : {old mid far next new : List SlotInstr} {checking span : Span} {a b c : TypedExpr} {args : List TypedExpr} → args ≡ (a ∷ b ∷ c ∷ []) → LowersElement old mid checking a → LowersElement mid far checking b → LowersElement far next checking c → new ≡ next ++ instruction kinds.CheckData span checking ∷ [] → LowersForm old new checking span forms.CheckData args
+lowers_form_data_sig {old} {mid} {far} {next} {new} {checking} {span} {a} {b} {c} {args} is h0 h1 h2 h3 = subst (LowersForm old new checking span forms.CheckData) (sym is) (form_data_sig h0 h1 h2 h3)
+
+pub lowers_form_lock : {old begun mid far next new : List SlotInstr} {checking span : Span} {lock : Lock} {a : TypedExpr} {args : List TypedExpr} → args ≡ (a ∷ []) → begun ≡ old ++ instruction (lit (lock_front lock)) span checking ∷ [] → LowersElement begun mid checking a → far ≡ mid ++ instruction (kinds.Do2 Cat) span checking ∷ [] → next ≡ far ++ instruction (lit (lock_back lock)) span checking ∷ [] → new ≡ next ++ instruction (kinds.Do2 Cat) span checking ∷ [] → LowersForm old new checking span (forms.Locks lock) args
+lowers_form_lock {old} {begun} {mid} {far} {next} {new} {checking} {span} {lock} {a} {args} is h0 h1 h2 h3 h4 = subst (LowersForm old new checking span (forms.Locks lock)) (sym is) (form_lock h0 h1 h2 h3 h4)
 
 -- ---- calls
 

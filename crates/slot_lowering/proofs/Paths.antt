@@ -209,24 +209,24 @@ met_outside : (r : Result Env Failure) (env : Env) → met r ≡ met (r >>= λ a
 met_outside (Ok after) env = refl
 met_outside (Err e) env = refl
 
-picked_alike : (t : Bool) {a b : List SlotInstr} {ss us : List TypedStmt} {slots : List Slot} (world : World) (env : Env) → IsBranch a (leave_all ss) slots → IsBranch b (leave_all us) slots → Holds slots env
+picked_alike : (t : Bool) {a b : List SlotInstr} (ss us : List TypedStmt) {slots : List Slot} (world : World) (env : Env) → IsBranch a (leave_all ss) slots → IsBranch b (leave_all us) slots → Holds slots env
     → met (all_acts (if t then map (act_of world) a else map (act_of world) b) (state [] env)) ≡ met (block (if t then map (env_after world) ss else map (env_after world) us) env)
-picked_alike true {a} {b} {ss} {us} world env ha hb held = ha.alike world env held ∙ met_outside (leave_all ss world env) env
-picked_alike false {a} {b} {ss} {us} world env ha hb held = hb.alike world env held ∙ met_outside (leave_all us world env) env
+picked_alike true {a} {b} ss us world env ha hb held = ha.alike world env held ∙ met_outside (leave_all ss world env) env
+picked_alike false {a} {b} ss us world env ha hb held = hb.alike world env held ∙ met_outside (leave_all us world env) env
 
 fork_step : (r : Result (List ℕ) Failure) (g : List ℕ → Result Env Failure) (i : SlotInstr) (world : World) (env : Env) → ((x : List ℕ) → met (act_of world i (state (x ∷ []) env)) ≡ met (g x))
     → met (((r >>= λ e. Ok (e ∷ [])) >>= λ es. Ok (state (es ++ []) env)) >>= run_of world (i ∷ [])) ≡ met (r >>= g)
 fork_step (Ok x) g i world env acts = ap met (run_one world i (state (x ∷ []) env)) ∙ acts x
 fork_step (Err e) g i world env acts = refl
 
-last_choice : {old mid new a b : List SlotInstr} {span : Span} {kind : StmtKind Slot Ty} {e : TypedExpr} {ss us : List TypedStmt}
+last_choice : {old mid new a b : List SlotInstr} {span : Span} {kind : StmtKind Slot Ty} {e : TypedExpr} (ss us : List TypedStmt)
     → part_of_kind kind ≡ record { names = []; scoped = λ slots. value_scoped e slots && (is_scoped ss slots && is_scoped us slots) }
     → ((world : World) (env : Env) → kind_leaves world kind span env ≡ (element (value_of world env e) >>= λ x. block (if truth_of x then map (env_after world) ss else map (env_after world) us) env))
     → LowersElement old mid span e
     → ((slots : List Slot) → is_scoped ss slots ≡ true → may_end_kind kind ≡ true → IsBranch a (leave_all ss) slots × (rows_end (map shapes_of a) ≡ true))
     → ((slots : List Slot) → is_scoped us slots ≡ true → may_end_kind kind ≡ true → IsBranch b (leave_all us) slots)
     → new ≡ mid ++ instruction (kinds.If a b) span span ∷ [] → LowersLastKind old new kind span
-last_choice {old} {mid} {new} {a} {b} {span} {kind} {e} {ss} {us} parts is h ya na grown =
+last_choice {old} {mid} {new} {a} {b} {span} {kind} {e} ss us parts is h ya na grown =
     let i = instruction (kinds.If a b) span span in
     let x : Shapes = record { inner = then_shape (takes_all 1) (choice_shape (map shapes_of a) (map shapes_of b)); last = then_shape (takes_all 1) (fork_shape (map shapes_of a) (map shapes_of b)); is_end = false; may_end = rows_end (map shapes_of a) && other_ends (map shapes_of b) } in
     let row : shapes_at (kinds.If a b) ≡ x = steps.if_stands a b in
@@ -244,7 +244,7 @@ last_choice {old} {mid} {new} {a} {b} {span} {kind} {e} {ss} {us} parts is h ya 
             alike = λ world env held.
                 ap met (run_append world h.rows (i ∷ []) (state [] env) ∙ ap (λ r. r >>= run_of world (i ∷ [])) (h.puts.runs world (state [] env)))
                 ∙ fork_step (element (value_of world env e)) (λ v. block (if truth_of v then map (env_after world) ss else map (env_after world) us) env) i world env
-                (λ v. ap met (row_done world (kinds.If a b) span span _ (state (v ∷ []) env) (steps.if_done world a b)) ∙ picked_alike (truth_of v) world env first.0 second held)
+                (λ v. ap met (row_done world (kinds.If a b) span span _ (state (v ∷ []) env) (steps.if_done world a b)) ∙ picked_alike (truth_of v) ss us world env first.0 second held)
                 ∙ ap met (sym (is world env));
             leads = λ outer seen.
                 let to = fork_leads outer (seen_with span seen) first.0 second in (
@@ -265,7 +265,7 @@ last_choice {old} {mid} {new} {a} {b} {span} {kind} {e} {ss} {us} parts is h ya 
 pub last_if_only : {old mid new a : List SlotInstr} {span : Span} {kind : StmtKind Slot Ty} {e : TypedExpr} {ss : List TypedStmt} → kind ≡ stmts.If e ss None
     → LowersElement old mid span e → LowersPath [] a ss → new ≡ mid ++ instruction (kinds.If a []) span span ∷ [] → LowersLastKind old new kind span
 last_if_only {old} {mid} {new} {a} {span} {kind} {e} {ss} is h ya grown =
-    last_choice {us = []} (ap part_of_kind is ∙ scoped.if_only_part e ss) (λ world env. ap (λ k. kind_leaves world k span env) is ∙ source.if_only_leaves world e ss span env) h
+    last_choice ss [] (ap part_of_kind is ∙ scoped.if_only_part e ss) (λ world env. ap (λ k. kind_leaves world k span env) is ∙ source.if_only_leaves world e ss span env) h
     (λ slots ok ends.
     let q = ya.does slots ok (and_left (last_of false (map may_end ss)) true (sym (ap may_end_kind is ∙ scoped.if_only_ends e ss) ∙ ends)) in
     let same : ya.rows ≡ a = sym ya.grown in
@@ -276,7 +276,7 @@ pub last_if_else : {old mid new a b : List SlotInstr} {span : Span} {kind : Stmt
     → LowersElement old mid span e → LowersPath [] a ss → LowersPath [] b us → new ≡ mid ++ instruction (kinds.If a b) span span ∷ [] → LowersLastKind old new kind span
 last_if_else {old} {mid} {new} {a} {b} {span} {kind} {e} {ss} {us} is h ya na grown =
     let end : may_end_kind kind ≡ (last_of false (map may_end ss) && last_of false (map may_end us)) = ap may_end_kind is ∙ scoped.if_else_ends e ss us in
-    last_choice (ap part_of_kind is ∙ scoped.if_else_part e ss us) (λ world env. ap (λ k. kind_leaves world k span env) is ∙ source.if_else_leaves world e ss us span env) h
+    last_choice ss us (ap part_of_kind is ∙ scoped.if_else_part e ss us) (λ world env. ap (λ k. kind_leaves world k span env) is ∙ source.if_else_leaves world e ss us span env) h
     (λ slots ok ends.
     let q = ya.does slots ok (and_left (last_of false (map may_end ss)) (last_of false (map may_end us)) (sym end ∙ ends)) in
     (subst (λ l. IsBranch l (leave_all ss) slots) (sym ya.grown) (path_branch q), subst (λ l. rows_end (map shapes_of l) ≡ true) (sym ya.grown) q.ends))

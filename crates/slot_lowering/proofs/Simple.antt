@@ -340,7 +340,7 @@ lowers_pair {old} {mid} {new} {span} {kind} {left} {right} {e} is h grown =
                 let no_l : has l slots ≡ false = not_true (has l slots) free_l in
                 let itself : (l.0 == l.0) ≡ true = grind (arith, nat_tests) in
                 let there : has l one ≡ true = list_any-append (λ (s : Slot). s.0 == l.0) slots (l ∷ []) ∙ or_right (has l slots) (has l (l ∷ [])) (or_left (l.0 == l.0) false itself) in
-                (new_is r one free_r l there, refl, tt);
+                (new_is r one free_r l there, (refl, tt));
             leads = λ outer seen. record {
               later = seen_with span seen;
               to = shape_append t.rows (i ∷ []) (place slots outer seen) ∙ ap (option_and_then (all_shapes (map shapes_of (i ∷ [])))) (two_leads h slots outer seen ready)
