@@ -1,7 +1,6 @@
 -- The run of a function at its place, and its run alone.
-use Rattle.std.proofs.Common.{◌≡◌, inr, ℕ, zero, suc, true, List, [], ◌∷◌, ◌++◌, length, Option, Some, None, Result, Ok, Err, refl, sym, ap, ◌∙◌, subst, arith, append-nil}
+use Rattle.std.proofs.Common.{◌≡◌, inr, ℕ, true, List, [], ◌∷◌, ◌++◌, length, Result, Ok, Err, refl, sym, ap, ◌∙◌, subst, arith, append-nil}
 use Rattle.std.specs.List.{AllByRecursion}
-use Rattle.std.proofs.lemmas.Bool.{false≢true}
 use Rattle.cash_base.specs.Failing.{◌>>=◌}
 use Rattle.tx_context.specs.World.{World}
 use Rattle.script_codec.specs.declared.instr.Instr.{Instr}
@@ -10,7 +9,7 @@ use Rattle.opcode_table.specs.Stack.{Stack}
 use Rattle.bch_vm.specs.Setting.{setting_in}
 use Rattle.bch_vm.specs.Board.{Board, board}
 use Rattle.bch_vm.specs.Script.{State, state, Progress, beginning, run, balanced, run_end, Failure}
-use Rattle.run_laws.specs.Nested.{nesting, none_open, is_nested}
+use Rattle.run_laws.specs.Nested.{nesting, is_nested}
 use Rattle.run_laws.specs.Branches.{HasConditionsOf, past}
 use Rattle.selector.specs.Pieces.{Piece, Own, Function, functions_of}
 use Rattle.selector.specs.Place.{is_unseparated, EndsBehind}
@@ -18,7 +17,7 @@ use Rattle.selector.specs.Selection.{behind}
 use Rattle.selector.proofs.Runs.{on}
 use Rattle.selector.proofs.Shapes.{Laws}
 use Rattle.selector.proofs.Chosen.{then_past}
-use Rattle.selector.proofs.Anywhere.{inside, IsBehind, run_behind}
+use Rattle.selector.proofs.Anywhere.{inside, IsBehind, run_behind, closes}
 
 -- what holds of all functions holds of each
 pub of_each : (P : Marked → Type 0) (before : List Piece) (function : Marked) (after : List Piece)
@@ -45,11 +44,6 @@ ends_behind before after p q s (Err failure) r′ none kept h = ap (then_past af
 ends_behind before after p q s (Ok t) r′ none kept (u, is, last) =
     subst (λ r. EndsBehind before p q r (then_past after r′)) (sym (ap (λ c. balanced c t) (kept ∙ none)))
     (past after (record { board = inside [] t.board; progress = u }), ap (then_past after) is, inside_nothing t.board, last)
-
-closes : (o : Option ℕ) → none_open o ≡ true → o ≡ Some 0
-closes None h = absurd (false≢true h)
-closes (Some zero) h = refl
-closes (Some (suc around)) h = absurd (false≢true h)
 
 -- in every world, the run at its place ends as the run alone
 pub alone : Laws → (world : World) (whole before code after : List Instr) (stack : Stack) → is_nested code ≡ true

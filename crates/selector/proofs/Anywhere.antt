@@ -1,5 +1,5 @@
 -- Nested code without a separator goes alike at another place, inside of conditions that are true.
-use Rattle.std.proofs.Common.{◌≡◌, ◌⊎◌, inl, ℕ, suc, ◌+◌, Bool, true, false, not, ◌&&◌, cond, List, [], ◌∷◌, ◌++◌, length, Option, Some, None, Result, Ok, Err, refl, sym, ap, ◌∙◌, subst, arith}
+use Rattle.std.proofs.Common.{◌≡◌, ◌⊎◌, inl, ℕ, zero, suc, ◌+◌, Bool, true, false, not, ◌&&◌, cond, List, [], ◌∷◌, ◌++◌, length, Option, Some, None, Result, Ok, Err, refl, sym, ap, ◌∙◌, subst, arith}
 use Rattle.std.specs.Prelude.{option_and_then}
 use Rattle.std.proofs.lemmas.Bool.{false≢true, and_parts}
 use Rattle.std.proofs.lemmas.List.{map-append}
@@ -17,7 +17,7 @@ use Rattle.opcode_table.specs.Table.{row_of}
 use Rattle.bch_vm.specs.Setting.{Setting, Around, around, asked_at}
 use Rattle.bch_vm.specs.Board.{Board, board, Move, is_live, opened_where, laid_from, fetched_from, on_stack, executed_where, row_after, pushed_where, board_after, is_effective, is_executed, is_condition, ends_block, outer}
 use Rattle.bch_vm.specs.Script.{State, state_of, Progress, progress_after, passed, run, Failure, executed_one, executed_in}
-use Rattle.run_laws.specs.Nested.{open_after_row, open_after, nesting}
+use Rattle.run_laws.specs.Nested.{open_after_row, open_after, nesting, none_open}
 use Rattle.selector.specs.Place.{row_separates, separates, is_unseparated, IsLastBehind, executed_behind, all_executed_behind}
 
 -- ---- one instruction
@@ -313,3 +313,10 @@ executed_all_behind first second before base (instr ∷ code) n b p q live plain
         (instr_alike base k a a′ instr b live parts.0 (alike (p.place + length (spelling instr)) (q.place + length (spelling instr))) is)
         (same_executed instr b.conditions base live) there alike
         (λ next count same. more next p′ q′ live parts.1 same (ap (nesting code) count ∙ nested) there′)
+
+-- ---- code that stands alone
+
+pub closes : (o : Option ℕ) → none_open o ≡ true → o ≡ Some 0
+closes None h = absurd (false≢true h)
+closes (Some zero) h = refl
+closes (Some (suc around)) h = absurd (false≢true h)

@@ -35,6 +35,15 @@ marks_append before (Function function ∷ first) second =
     ∙ sym (append_assoc here (marks_of (before + length rows) first)
     (marks_of (before + length (code_of (Function function ∷ first))) second))
 
+-- the rows in front of those of the others
+pub split : (contract : Span) (n : ℕ) (function next : Marked) (functions : List Marked)
+    → code_of (choice contract n (function ∷ next ∷ functions))
+    ≡ (opening contract n ++ (function.code.items ++ own contract ELSE ∷ []))
+    ++ code_of (choice contract (n + 1) (next ∷ functions) ++ Own (own contract ENDIF ∷ []) ∷ [])
+split contract n function next functions =
+    let tail = code_of (choice contract (n + 1) (next ∷ functions) ++ Own (own contract ENDIF ∷ []) ∷ []) in
+    ap (λ rows. opening contract n ++ rows) (sym (append_assoc function.code.items (own contract ELSE ∷ []) tail))
+
 -- ---- another, in front of others
 
 more_marks : (contract : Span) (n : ℕ) (function : Marked) (others functions : List Marked) (c0 c1 c2 c3 : List Spanned) (m0 m1 m2 : List Mark)

@@ -1,10 +1,13 @@
 pub mod Runs
 pub mod Shapes
 pub mod Built
+pub mod Anywhere
+pub mod Executed
+pub mod Stands
+pub mod ExecutedOwn
 pub mod Chosen
 pub mod Refused
 pub mod Sizes
-pub mod Anywhere
-pub mod Alone
 pub mod Opcodes
+pub mod Alone
 pub mod Whole

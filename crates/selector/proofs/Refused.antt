@@ -1,9 +1,7 @@
 -- Where no function is run.
-use Rattle.std.proofs.Common.{◌≡◌, ℕ, zero, suc, ◌+◌, ◌≤◌, ◌<◌, true, false, List, [], ◌∷◌, ◌++◌, length, Some, None, ℤ, pos, Result, Err, refl, sym, ap, ◌∙◌, subst, arith, length-append}
-use Rattle.std.specs.Prelude.{slice_get}
+use Rattle.std.proofs.Common.{◌≡◌, ℕ, suc, ◌+◌, ◌≤◌, ◌<◌, true, false, List, [], ◌∷◌, ◌++◌, length, Some, None, ℤ, pos, Result, Err, refl, sym, ap, ◌∙◌, subst, arith, length-append}
 use Rattle.std.specs.Ordering.{int_eq}
-use Rattle.std.proofs.lemmas.Option.{none-some}
-use Rattle.std.proofs.lemmas.List.{append_assoc, length-map}
+use Rattle.std.proofs.lemmas.List.{length-map}
 use Rattle.cash_base.specs.declared.fault.Cause.TheVariants.{NotANumber, CheckFailed}
 use Rattle.cash_base.specs.declared.fault.MachineCause.{MachineCause}
 use Rattle.cash_base.specs.declared.fault.MachineCause.TheVariants.{Shared}
@@ -24,40 +22,9 @@ use Rattle.selector.specs.Choice.{DROP, DUP, NUMEQUAL, NUMEQUALVERIFY, number, o
 use Rattle.selector.specs.Selection.{AreNested, behind, StandsAt}
 use Rattle.selector.proofs.Runs.{on, pushes, copies, compares_none, takes_not, takes_none}
 use Rattle.selector.proofs.Shapes.{Laws, instrs_of, last_shape, more_shape, dropping_nested, choice_nested}
-use Rattle.selector.proofs.Built.{code_append}
+use Rattle.selector.proofs.Built.{code_append, split}
+use Rattle.selector.proofs.Stands.{stands_behind, stands_in_front, own_at, at_next}
 use Rattle.selector.proofs.Chosen.{then_past, differs, fits, compared}
-
--- ---- rows behind others
-
-get_behind : (front back : List Spanned) (k : ℕ) → slice_get (front ++ back) (length front + k) ≡ slice_get back k
-get_behind [] back k = ap (slice_get back) (omega arith)
-get_behind (row ∷ front) back k =
-    let index : length (row ∷ front) + k ≡ suc (length front + k) = omega arith in
-    ap (slice_get (row ∷ (front ++ back))) index ∙ get_behind front back k
-
-get_in_front : (front back : List Spanned) (k : ℕ) (row : Spanned) → slice_get front k ≡ Some row
-    → slice_get (front ++ back) k ≡ Some row
-get_in_front [] back k row found = absurd (none-some row found)
-get_in_front (first ∷ front) back zero row found = found
-get_in_front (first ∷ front) back (suc k) row found = get_in_front front back k row found
-
-pub stands_behind : (contract : Span) (front back : List Spanned) (k : ℕ) → StandsAt contract back k
-    → StandsAt contract (front ++ back) (length front + k)
-stands_behind contract front back k h = record {
-  row = h.row;
-  found = get_behind front back k ∙ h.found;
-  doing = h.doing;
-  checking = h.checking;
-}
-
-pub stands_in_front : (contract : Span) (front back : List Spanned) (k : ℕ) → StandsAt contract front k
-    → StandsAt contract (front ++ back) k
-stands_in_front contract front back k h = record {
-  row = h.row;
-  found = get_in_front front back k h.row h.found;
-  doing = h.doing;
-  checking = h.checking;
-}
 
 -- ---- failures
 
@@ -72,13 +39,6 @@ abbrev pub Refuses : Span → List Piece → (List ℕ → Type 0) → MachineCa
 Refuses contract pieces P cause =
     (setting : Setting) (b : Board) (selector : List ℕ) (rest : Stack) (p : Progress) → is_live b.conditions ≡ true → P selector
     → FailsFrom contract (code_of pieces) p.at cause (run setting (instrs_of pieces) (on b (selector ∷ rest) p))
-
-pub own_at : (contract : Span) (instr : Instr) (rows : List Spanned) → StandsAt contract (own contract instr ∷ rows) 0
-own_at contract instr rows = record { row = own contract instr; found = refl; doing = refl; checking = refl }
-
-pub at_next : (contract : Span) (first : Spanned) (rows : List Spanned) (k : ℕ) → StandsAt contract rows k
-    → StandsAt contract (first ∷ rows) (suc k)
-at_next contract first rows k h = record { row = h.row; found = h.found; doing = h.doing; checking = h.checking }
 
 -- ---- no number
 
@@ -128,15 +88,6 @@ not_this n count x none = differs x (pos n) (λ same. none 0 (omega arith) (same
 fails_on : (r : Result State Failure) (at : ℕ) (cause : MachineCause) (after : List Instr)
     → r ≡ Err (record { at = at; cause = cause }) → then_past after r ≡ Err (record { at = at; cause = cause })
 fails_on r at cause after fails = ap (then_past after) fails
-
--- the rows in front of those of the others
-split : (contract : Span) (n : ℕ) (function next : Marked) (functions : List Marked)
-    → code_of (choice contract n (function ∷ next ∷ functions))
-    ≡ (opening contract n ++ (function.code.items ++ own contract ELSE ∷ []))
-    ++ code_of (choice contract (n + 1) (next ∷ functions) ++ Own (own contract ENDIF ∷ []) ∷ [])
-split contract n function next functions =
-    let tail = code_of (choice contract (n + 1) (next ∷ functions) ++ Own (own contract ENDIF ∷ []) ∷ []) in
-    ap (λ rows. opening contract n ++ rows) (sym (append_assoc function.code.items (own contract ELSE ∷ []) tail))
 
 pub of_none : Laws → (contract : Span) (n : ℕ) (functions : List Marked) → AreNested functions → 1 ≤ length functions
     → n + length functions ≤ 65535

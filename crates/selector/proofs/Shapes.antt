@@ -7,9 +7,9 @@ use Rattle.script_codec.specs.declared.instr.Instr.{Instr}
 use Rattle.script_codec.specs.declared.spans.Marked.{Marked}
 use Rattle.opcode_table.specs.Table.{rows}
 use Rattle.bch_vm.specs.Setting.{Setting}
-use Rattle.bch_vm.specs.Script.{State, run}
+use Rattle.bch_vm.specs.Script.{State, run, ExecutesInTurn}
 use Rattle.run_laws.specs.Nested.{is_nested}
-use Rattle.run_laws.specs.Branches.{HasConditionsOf, opener, ELSE, ENDIF, two_arms, RunsTheFirst, RunsTheSecond}
+use Rattle.run_laws.specs.Branches.{HasConditionsOf, ChangesNothing, ExecutesNothing, opener, ELSE, ENDIF, two_arms, RunsTheFirst, RunsTheSecond}
 use Rattle.selector.specs.Pieces.{instructions, Piece, Own, Function, rows_of, code_of}
 use Rattle.selector.specs.Choice.{DROP, DUP, NUMEQUAL, NUMEQUALVERIFY, number, own, choice}
 use Rattle.selector.specs.Selection.{AreNested}
@@ -25,6 +25,9 @@ pub record Laws : Type 0 where
   pub two : (sense : Bool) (first second : List Instr) → is_nested first ≡ true → is_nested second ≡ true
       → is_nested (two_arms sense first second) ≡ true
   pub same : (setting : Setting) (code : List Instr) (s : State) → is_nested code ≡ true → HasConditionsOf s (run setting code s)
+  pub turn : (setting : Setting) (first second : List Instr) → ExecutesInTurn setting first second
+  pub changes : (setting : Setting) (code : List Instr) → is_nested code ≡ true → ChangesNothing setting code
+  pub nothing : (setting : Setting) (code : List Instr) → is_nested code ≡ true → ExecutesNothing setting code
 
 -- ---- instructions of pieces
 

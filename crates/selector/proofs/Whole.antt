@@ -1,9 +1,9 @@
 -- The whole code: the selector is raised, and then chooses.
-use Rattle.std.proofs.Common.{◌≡◌, ℕ, ◌+◌, ◌≤◌, ◌<◌, Bool, true, false, cond, List, [], ◌∷◌, ◌++◌, length, Some, ℤ, pos, Result, Ok, Err, refl, sym, ap, ◌∙◌, subst, arith, append-nil, not}
+use Rattle.std.proofs.Common.{◌≡◌, ℕ, ◌+◌, ◌≤◌, ◌<◌, Bool, true, false, cond, List, [], ◌∷◌, ◌++◌, length, Some, ℤ, pos, Result, Ok, Err, refl, sym, ap, ◌∙◌, subst, arith, append-nil, not, length-append}
 use Rattle.std.specs.Prelude.{◌==◌}
 use Rattle.std.specs.List.{AllByRecursion}
 use Rattle.std.proofs.lemmas.Bool.{eqb-true, false≢true, lt-ltb}
-use Rattle.std.proofs.lemmas.List.{map-append, length-map}
+use Rattle.std.proofs.lemmas.List.{map-append, length-map, append_assoc}
 use Rattle.cash_base.specs.declared.fault.Cause.TheVariants.{NotANumber, CheckFailed}
 use Rattle.cash_base.specs.declared.fault.MachineCause.{MachineCause}
 use Rattle.cash_base.specs.declared.fault.MachineCause.TheVariants.{Shared, Underflow}
@@ -17,32 +17,39 @@ use Rattle.opcode_table.specs.Stack.{Stack}
 use Rattle.opcode_table.specs.Table.{rows}
 use Rattle.bch_vm.specs.Setting.{Setting, setting_in}
 use Rattle.bch_vm.specs.Board.{Board, is_live}
-use Rattle.bch_vm.specs.Script.{State, Progress, beginning, run, balanced, run_end, Failure}
+use Rattle.bch_vm.specs.Script.{State, Progress, beginning, run, balanced, run_end, Failure, Executed, executed_in, state}
 use Rattle.run_laws.specs.Nested.{is_nested}
 use Rattle.run_laws.specs.Branches.{HasConditionsOf, past, ENDIF, two_arms}
 use Rattle.selector.specs.Pieces.{instructions, Piece, Own, Function, code_of, functions_of, own_of, marks_of, is_opcode}
 use Rattle.script_codec.specs.Spelling.{is_instruction, are_instructions}
 use Rattle.bch_vm.specs.Law.{are_keys_known}
 use Rattle.run_laws.specs.Underneath.{counts_elements, is_without_depth}
-use Rattle.selector.specs.Place.{separates, is_unseparated, EndsBehind}
+use Rattle.selector.specs.Place.{separates, is_unseparated, EndsBehind, all_executed_behind}
 use Rattle.selector.specs.Choice.{DROP, DUP, ROLL, NUMEQUAL, number, own, raising, choice}
-use Rattle.selector.specs.Selection.{AreNested, AreUnseparated, behind, StandsAt, FailsAt, Chooses, is_function, RefusesNoNumber, RefusesOthers, RefusesNone, Selects, lacks}
-use Rattle.selector.proofs.Runs.{on, behind_behind, pushes, raises, raises_none, copies_none}
+use Rattle.selector.specs.Selection.{AreNested, AreUnseparated, behind, StandsAt, FailsAt, Chooses, is_function, RefusesNoNumber, RefusesOthers, RefusesNone, Selects, lacks, AreChoosing, ExecutesBehind}
+use Rattle.selector.proofs.Runs.{on, behind_behind, pushes, raises, raises_none, copies_none, push_step, roll_step, then_executes}
 use Rattle.selector.proofs.Shapes.{Laws, instrs_of, more_shape, choice_nested}
-use Rattle.selector.proofs.Chosen.{then_past, IsChosen, chosen}
+use Rattle.selector.proofs.Chosen.{then_past, IsChosen, chosen, executed_entry}
 use Rattle.selector.proofs.Opcodes.{all_chosen, instructions_suit, separators_suit, depth_suits, lacking_suits, known_chosen}
 use Rattle.selector.proofs.Alone.{of_each, start, ended, alone}
-use Rattle.selector.proofs.Refused.{stands_behind, FailsFrom, Refuses, IsNoNumber, no_number, IsOfNone, of_none, own_at, at_next}
+use Rattle.selector.proofs.Refused.{FailsFrom, Refuses, IsNoNumber, no_number, IsOfNone, of_none}
+use Rattle.selector.proofs.ExecutedOwn.{AreOwnFrom, own_both, own_behind, own_in_front}
+use Rattle.selector.proofs.Stands.{stands_behind, own_at, at_next}
 use Rattle.selector.proofs.Sizes.{size_append, opcodes_append, own_append, raising_own, raising_size, raising_opcodes, choice_own, choice_size, choice_opcodes}
 
 -- ---- the selector is raised
 
 -- after the instructions that raise the selector it stands on top, and what comes behind is behind these too
-record IsRaised (setting : Setting) (raise : List Instr) (code : List Instr) (b : Board) (given : Stack) (selector : List ℕ) (rest : Stack) (p : Progress) : Type 0 where
+record IsRaised (contract : Span) (setting : Setting) (raise : List Spanned) (code : List Instr) (b : Board) (given : Stack)
+    (selector : List ℕ) (rest : Stack) (p : Progress) : Type 0 where
   progress : Progress
-  goes : run setting (raise ++ code) (on b (given ++ selector ∷ rest) p) ≡ run setting code (on b (selector ∷ (given ++ rest)) progress)
-  at : progress.at ≡ p.at + length raise
-  then : (second : List Instr) → 1 ≤ length second → behind second progress ≡ behind (raise ++ second) p
+  goes : run setting (instructions raise ++ code) (on b (given ++ selector ∷ rest) p) ≡ run setting code (on b (selector ∷ (given ++ rest)) progress)
+  at : progress.at ≡ p.at + length (instructions raise)
+  then : (second : List Instr) → 1 ≤ length second → behind second progress ≡ behind (instructions raise ++ second) p
+  front : List Executed
+  executed : executed_in setting (instructions raise ++ code) (Ok (on b (given ++ selector ∷ rest) p))
+      ≡ front ++ executed_in setting code (Ok (on b (selector ∷ (given ++ rest)) progress))
+  own : AreOwnFrom contract raise p.at front
 
 no_elements : (given : Stack) → length given ≡ 0 → given ≡ []
 no_elements [] none = refl
@@ -50,11 +57,11 @@ no_elements (e ∷ given) none = absurd (omega (arith, none))
 
 raised : (setting : Setting) (contract : Span) (ctors : ℕ) (code : List Instr) (b : Board) (given : Stack) (selector : List ℕ) (rest : Stack)
     (p : Progress) → is_live b.conditions ≡ true → ctors ≤ 65535 → length given ≡ ctors
-    → IsRaised setting (instructions (raising contract ctors)) code b given selector rest p
+    → IsRaised contract setting (raising contract ctors) code b given selector rest p
 raised setting contract ctors code b given selector rest p live low count = by_test (ctors == 0) refl
   where
     by_test : (t : Bool) → (ctors == 0) ≡ t
-        → IsRaised setting (instructions (cond t [] (own contract (number ctors) ∷ own contract ROLL ∷ []))) code b given selector rest p
+        → IsRaised contract setting (cond t [] (own contract (number ctors) ∷ own contract ROLL ∷ [])) code b given selector rest p
     by_test true is = record {
       progress = p;
       goes = let none = no_elements given (count ∙ eqb-true ctors 0 is) in
@@ -62,6 +69,11 @@ raised setting contract ctors code b given selector rest p live low count = by_t
           ∙ ap (λ above. run setting code (on b (selector ∷ (above ++ rest)) p)) (sym none);
       at = omega arith;
       then = λ second some. refl;
+      front = [];
+      executed = let none = no_elements given (count ∙ eqb-true ctors 0 is) in
+          ap (λ above. executed_in setting code (Ok (on b (above ++ selector ∷ rest) p))) none
+          ∙ ap (λ above. executed_in setting code (Ok (on b (selector ∷ (above ++ rest)) p))) (sym none);
+      own = tt;
     }
     by_test false is = record {
       progress = behind (number ctors ∷ ROLL ∷ []) p;
@@ -71,6 +83,22 @@ raised setting contract ctors code b given selector rest p live low count = by_t
           (behind_behind (number ctors ∷ []) (ROLL ∷ []) p (omega arith));
       at = refl;
       then = λ second some. behind_behind (number ctors ∷ ROLL ∷ []) second p some;
+      front = executed_entry p.at (length (minimal_bytes (pos ctors) ∷ (given ++ selector ∷ rest)))
+          ∷ executed_entry (p.at + 1) (length (selector ∷ (given ++ rest))) ∷ [];
+      executed = then_executes setting (number ctors) (ROLL ∷ code) b (given ++ selector ∷ rest)
+          (minimal_bytes (pos ctors) ∷ (given ++ selector ∷ rest)) p live (push_step setting (minimal_bytes (pos ctors)) b (given ++ selector ∷ rest) p live)
+          ∙ ap (λ es. executed_entry p.at (length (minimal_bytes (pos ctors) ∷ (given ++ selector ∷ rest))) ∷ es)
+          (then_executes setting ROLL code b (minimal_bytes (pos ctors) ∷ (given ++ selector ∷ rest)) (selector ∷ (given ++ rest))
+          (behind (number ctors ∷ []) p) live (roll_step setting ctors b given selector rest (behind (number ctors ∷ []) p) live (omega (arith, low)) count)
+          ∙ ap (λ q. executed_entry (p.at + 1) (length (selector ∷ (given ++ rest))) ∷ executed_in setting code (Ok (on b (selector ∷ (given ++ rest)) q)))
+          (behind_behind (number ctors ∷ []) (ROLL ∷ []) p (omega arith)));
+      own = (
+        record { index = 0; at = omega arith; stands = own_at contract (number ctors) (own contract ROLL ∷ []) },
+        (
+          record { index = 1; at = refl; stands = at_next contract (own contract (number ctors)) (own contract ROLL ∷ []) 0 (own_at contract ROLL []) },
+          tt,
+        ),
+      );
     }
 
 -- ---- at the end of a run
@@ -104,7 +132,7 @@ functions_in_order contract n (function ∷ next ∷ functions) =
     ∙ append-nil (functions_of (choice contract (n + 1) (next ∷ functions)))
     ∙ functions_in_order contract (n + 1) (next ∷ functions))
 
-whole_runs : Laws → (contract : Span) (ctors : ℕ) (functions : List Marked) (k : ℕ) (h : IsChosen (choice contract 0 functions) k (pos (0 + k)))
+whole_runs : Laws → (contract : Span) (ctors : ℕ) (functions : List Marked) (k : ℕ) (h : IsChosen contract (choice contract 0 functions) k (pos (0 + k)))
     (world : World) (given rest : Stack) (selector : List ℕ) → ctors ≤ 65535 → length given ≡ ctors → number_of selector ≡ Some (pos k)
     → run_end world (instrs_of (pieces_of contract ctors functions)) (given ++ selector ∷ rest)
     ≡ then_past (instrs_of h.place.after)
@@ -124,9 +152,62 @@ whole_runs laws contract ctors functions k h world given rest selector low count
     ∙ ap (λ l. behind l beginning) (sym (map-append (λ row. row.instr) (raising contract ctors) (code_of h.place.before))))
     ∙ ended_past from (instrs_of h.place.after) (run setting function from) refl (laws.same setting function from h.nested)
 
+-- numbered from the first instruction
+from_first : (contract : Span) (code : List Spanned) (es : List Executed) → AreOwnFrom contract code 0 es → AreChoosing contract code es
+from_first contract code [] all = tt
+from_first contract code (e ∷ es) all =
+    let index : all.0.index ≡ e.at = sym (all.0.at ∙ omega arith) in
+    (subst (StandsAt contract code) index all.0.stands, from_first contract code es all.1)
+
+whole_executes : (contract : Span) (ctors : ℕ) (functions : List Marked) (k : ℕ)
+    (h : IsChosen contract (choice contract 0 functions) k (pos (0 + k)))
+    (world : World) (given rest : Stack) (selector : List ℕ) → ctors ≤ 65535 → length given ≡ ctors → number_of selector ≡ Some (pos k)
+    → is_unseparated (instructions h.place.function.code.items) ≡ true
+    → ExecutesBehind contract (code_of (pieces_of contract ctors functions)) (length (code_of (Own (raising contract ctors) ∷ h.place.before)))
+    (length (given ++ rest))
+    (executed_in (setting_in world (instructions h.place.function.code.items)) (instructions h.place.function.code.items)
+    (Ok (state (given ++ rest) beginning)))
+    (executed_in (setting_in world (instrs_of (pieces_of contract ctors functions))) (instrs_of (pieces_of contract ctors functions))
+    (Ok (state (given ++ selector ∷ rest) beginning)))
+whole_executes contract ctors functions k h world given rest selector low count is plain =
+    let setting = setting_in world (instrs_of (pieces_of contract ctors functions)) in
+    let code = instrs_of (choice contract 0 functions) in
+    let rows = code_of (choice contract 0 functions) in
+    let raise = raising contract ctors in
+    let function = instructions h.place.function.code.items in
+    let up = raised setting contract ctors code start given selector rest beginning refl low count in
+    let ih = h.executes (setting_in world function) setting start selector (given ++ rest) up.progress refl
+    (is ∙ ap (λ n. Some (pos n)) (omega arith)) (λ x y. refl) plain in
+    let found = executed_in (setting_in world function) function (Ok (state (given ++ rest) beginning)) in
+    let joined = length-append raise (code_of h.place.before) in
+    let mapped = length-map raise (λ row. row.instr) in
+    let mapped_before = length-map (code_of h.place.before) (λ row. row.instr) in
+    let there : up.progress.at + length (instrs_of h.place.before) ≡ length (code_of (Own raise ∷ h.place.before)) =
+    omega (arith, up.at, joined, mapped, mapped_before) in
+    let from : up.progress.at ≡ 0 + length raise = omega (arith, up.at, mapped) in
+    let all : AreOwnFrom contract (raise ++ rows) 0 (up.front ++ (ih.front ++ ih.last ∷ ih.after)) =
+    own_both contract (raise ++ rows) 0 up.front (ih.front ++ ih.last ∷ ih.after)
+    (own_in_front contract raise rows 0 up.front up.own)
+    (own_behind contract raise rows 0 up.progress.at (ih.front ++ ih.last ∷ ih.after) from ih.own) in
+    record {
+      front = up.front ++ ih.front;
+      last = ih.last;
+      after = ih.after;
+      are = ap (λ c. executed_in setting c (Ok (on start (given ++ selector ∷ rest) beginning))) (instrs_whole contract ctors functions)
+          ∙ up.executed
+          ∙ ap (λ es. up.front ++ es) ih.are
+          ∙ ap (λ n. up.front ++ (ih.front ++ (ih.last ∷ (all_executed_behind n found ++ ih.after)))) there
+          ∙ sym (append_assoc up.front ih.front
+          (ih.last ∷ (all_executed_behind (length (code_of (Own raise ∷ h.place.before))) found ++ ih.after)));
+      at = ih.at ∙ there;
+      leaves = ih.leaves;
+      choosing = from_first contract (raise ++ rows) ((up.front ++ ih.front) ++ ih.last ∷ ih.after)
+          (subst (AreOwnFrom contract (raise ++ rows) 0) (sym (append_assoc up.front ih.front (ih.last ∷ ih.after))) all);
+    }
+
 whole_chosen : Laws → (contract : Span) (ctors : ℕ) (functions : List Marked) (k : ℕ) → AreNested functions → AreUnseparated functions
     → ctors ≤ 65535 → length functions ≤ 64 → k < length functions
-    → Chooses ctors (code_of (pieces_of contract ctors functions)) (pieces_of contract ctors functions) k
+    → Chooses contract ctors (code_of (pieces_of contract ctors functions)) (pieces_of contract ctors functions) k
 whole_chosen laws contract ctors functions k nested plain low few within =
     let raise : List Piece = Own (raising contract ctors) ∷ [] in
     let h = chosen laws contract 0 functions k nested (omega (arith, few)) within in
@@ -153,6 +234,8 @@ whole_chosen laws contract ctors functions k nested plain low few within =
           (on start (given ++ rest) (behind (instrs_of (raise ++ h.place.before)) beginning)))))
           (length-map (code_of (raise ++ h.place.before)) (λ row. row.instr))
           (alone laws world whole (instrs_of (raise ++ h.place.before)) function (instrs_of h.place.after) (given ++ rest) h.nested lone));
+      executes = λ world given rest selector count is.
+          whole_executes contract ctors functions k h world given rest selector low count is lone;
     }
 
 -- ---- refusals
@@ -289,7 +372,7 @@ selects_pieces laws contract ctors functions code nested plain several few low w
           (all_chosen is_instruction instructions_suit contract ctors functions pieces refl in_order all);
       keys = λ all. subst (λ code. are_keys_known false (instructions code) ≡ true) back
           (known_chosen contract ctors functions pieces refl in_order all);
-      chosen = λ at within. subst (λ code. Chooses ctors code (pieces_of contract ctors functions) at) back
+      chosen = λ at within. subst (λ code. Chooses contract ctors code (pieces_of contract ctors functions) at) back
           (whole_chosen laws contract ctors functions at nested plain low few within);
       no_number = subst (λ code. RefusesNoNumber contract ctors code) back
           (whole_refuses contract ctors functions IsNoNumber (Shared NotANumber) low

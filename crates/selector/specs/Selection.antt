@@ -14,12 +14,12 @@ use Rattle.script_codec.specs.declared.spans.Marked.{Marked}
 use Rattle.script_codec.specs.Spelling.{are_instructions, spellings}
 use Rattle.opcode_table.specs.Stack.{Stack}
 use Rattle.bch_vm.specs.Setting.{Setting, setting_in}
-use Rattle.bch_vm.specs.Script.{State, state, Progress, beginning, run, run_end, Failure}
+use Rattle.bch_vm.specs.Script.{State, state, Progress, beginning, run, run_end, Failure, Executed, executed_in}
 use Rattle.run_laws.specs.Nested.{is_nested}
 use Rattle.bch_vm.specs.Law.{are_keys_known}
 use Rattle.run_laws.specs.Branches.{past}
 use Rattle.run_laws.specs.Underneath.{is_without_depth}
-use Rattle.selector.specs.Place.{is_unseparated, EndsBehind}
+use Rattle.selector.specs.Place.{is_unseparated, EndsBehind, all_executed_behind}
 use Rattle.selector.specs.Pieces.{instructions, Piece, Function, code_of, functions_of, own_of, marks_of, foreign_opcodes, is_opcode, AreOwn, size_of, opcodes_of}
 
 -- ---- what is asked
@@ -68,8 +68,23 @@ pub record Stands (pieces : List Piece) (at : ℕ) : Type 0 where
   pub parts : pieces ≡ before ++ (Function function ∷ after)
   pub count : length (functions_of before) ≡ at
 
+-- each of these executed instructions stands at the contract's place
+abbrev pub AreChoosing : Span → List Spanned → List Executed → Type 0
+AreChoosing contract rows es = AllByRecursion (λ e. StandsAt contract rows e.at) es
+
+-- A run executes some of the selector's instructions, the last of which leaves a stack of this height, just before the
+-- function's code; then those that a run of the function alone executes, each at its place; and then some of the selector's.
+pub record ExecutesBehind (contract : Span) (rows : List Spanned) (before height : ℕ) (alone whole : List Executed) : Type 0 where
+  pub front : List Executed
+  pub last : Executed
+  pub after : List Executed
+  pub are : whole ≡ front ++ (last ∷ (all_executed_behind before alone ++ after))
+  pub at : last.at + 1 ≡ before
+  pub leaves : last.height ≡ height
+  pub choosing : AreChoosing contract rows (front ++ last ∷ after)
+
 -- where the selector is the number of this function
-pub record Chooses (ctors : ℕ) (code : List Spanned) (pieces : List Piece) (at : ℕ) : Type 0 where
+pub record Chooses (contract : Span) (ctors : ℕ) (code : List Spanned) (pieces : List Piece) (at : ℕ) : Type 0 where
   pub place : Stands pieces at
   pub runs : (world : World) (given rest : Stack) (selector : List ℕ) → length given ≡ ctors → number_of selector ≡ Some (pos at)
       → run_end world (instructions code) (given ++ selector ∷ rest)
@@ -80,6 +95,12 @@ pub record Chooses (ctors : ℕ) (code : List Spanned) (pieces : List Piece) (at
       → EndsBehind (length (code_of place.before)) beginning (behind (instructions (code_of place.before)) beginning)
       (run_end world (instructions place.function.code.items) (given ++ rest))
       (run_end world (instructions code) (given ++ selector ∷ rest))
+  -- and executes the same, from a stack of the constructor's elements and the rest
+  pub executes : (world : World) (given rest : Stack) (selector : List ℕ) → length given ≡ ctors → number_of selector ≡ Some (pos at)
+      → ExecutesBehind contract code (length (code_of place.before)) (length (given ++ rest))
+      (executed_in (setting_in world (instructions place.function.code.items)) (instructions place.function.code.items)
+      (Ok (state (given ++ rest) beginning)))
+      (executed_in (setting_in world (instructions code)) (instructions code) (Ok (state (given ++ selector ∷ rest) beginning)))
 
 -- ---- no function that is run
 
@@ -146,7 +167,7 @@ pub record Selects (functions : List Marked) (ctors : ℕ) (contract : Span) (co
   pub spelled : Keeps are_instructions functions code
   pub keys : Keeps (are_keys_known false) functions code
   -- what is run
-  pub chosen : (at : ℕ) → at < length functions → Chooses ctors code.code.items pieces at
+  pub chosen : (at : ℕ) → at < length functions → Chooses contract ctors code.code.items pieces at
   pub no_number : RefusesNoNumber contract ctors code.code.items
   pub others : RefusesOthers contract ctors (length functions) code.code.items
   pub missing : RefusesNone contract ctors code.code.items

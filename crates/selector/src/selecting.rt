@@ -7,8 +7,11 @@ ghost use Rattle.selector.specs.Choice.{raising, choice};
 ghost use Rattle.selector.specs.Selection.{AreNested, AreUnseparated, IsAlone, Selects};
 
 use crate::choosing::Chooser;
+use bch_vm::machine::runs_in_turn;
 use cash_base::{Memory, Span};
-use run_laws::conditions::{nested_code_composes, nested_code_keeps_conditions, picked_arm_runs};
+use run_laws::conditions::{
+    nested_code_composes, nested_code_keeps_conditions, nested_code_unexecuted, picked_arm_runs,
+};
 use script_codec::Marked;
 use std::alloc::Global;
 
@@ -46,6 +49,8 @@ pub fn select(
     nested_code_composes();
     nested_code_keeps_conditions();
     picked_arm_runs();
+    nested_code_unexecuted();
+    runs_in_turn();
     if functions.len() == 1 {
         let code = alone(alloc, &functions[0], contract)?;
         return Ok(code);

@@ -11,6 +11,9 @@ returns-clause-several c = λ several.
       in_turn = c.nested_code_composes.ensures.in_turn;
       two = c.nested_code_composes.ensures.two;
       same = c.nested_code_keeps_conditions.ensures.same;
+      turn = c.runs_in_turn.ensures.executed;
+      changes = c.nested_code_unexecuted.ensures.changes;
+      nothing = c.nested_code_unexecuted.ensures.executes;
     })
     c.args.contract c.args.ctors c.args.functions.now _ c.requires.nested c.requires.unseparated several c.requires.few (omega arith)
     c.in_ok-code-2.ensures.code c.in_ok-code-2.ensures.marks
