@@ -1,1 +1,5 @@
+pub mod Types
 pub mod Artifact
+pub mod Fields
+pub mod Reading
+pub mod Text

@@ -1,87 +1,16 @@
-//! Compiled contracts: the code, its places in the source, and the parameters and functions that a caller has to know.
+//! Compiled contracts, and the JSON files that keep them: written in one way, and read exactly.
 #![tactic(auto)]
 
-use cash_tree::Ty;
-use script_codec::Instr;
-use span_map::SpanRow;
-use std::marker::Model;
+pub mod fault;
+mod fields;
+pub mod laws;
+mod parts;
+pub mod program;
+mod reading;
+pub mod types;
+mod writing;
 
-/// A parameter of the constructor or of a function. Contracts see its name as bytes.
-#[derive(Drop)]
-pub struct AbiInput {
-    pub name: String,
-    pub ty: Ty,
-}
-
-impl Model for AbiInput {
-    ghost use Rattle.std.specs.Prelude.{string_bytes};
-    ghost use Rattle.std.specs.Coded.{codes};
-    ghost use Rattle.cash_tree.specs.contracts.Ty as types;
-    ghost use Rattle.artifact_json.specs.Artifact.{AbiParam};
-
-    ghost Value = { AbiParam };
-
-    ghost coded = { Prim.hlevel (codes, types.the_row.coded) };
-
-    ghost view = { λ i. record { name = string_bytes i.name; ty = i.ty } };
-}
-
-/// A function with its parameters, in the order of the source.
-#[derive(Drop)]
-pub struct AbiFunction {
-    pub name: String,
-    pub inputs: Vec<AbiInput>,
-}
-
-impl Model for AbiFunction {
-    ghost use Rattle.std.specs.Prelude.{string_bytes};
-    ghost use Rattle.std.specs.Coded.{codes};
-    ghost use Rattle.cash_tree.specs.contracts.Ty as types;
-    ghost use Rattle.artifact_json.specs.Artifact.{AbiCall};
-
-    ghost Value = { AbiCall };
-
-    ghost coded = { Prim.hlevel (codes, types.the_row.coded) };
-
-    ghost view = { λ f. record { name = string_bytes f.name; inputs = f.inputs.items } };
-}
-
-/// A compiled contract: its code, where they are known the places in the source of each instruction, the constructor's
-/// parameters, the functions in the order of the source, the contract's name, its source, and when it was compiled.
-///
-/// Each opcode of the code is above 60 (hexadecimal): the bytes up to that push, but for 50, which is reserved. Contracts
-/// see lists for vectors, and bytes for texts.
-#[derive(Drop)]
-pub struct Program {
-    pub code: Vec<Instr>,
-    pub spans: Option<Vec<SpanRow>>,
-    pub ctor: Vec<AbiInput>,
-    pub abi: Vec<AbiFunction>,
-    pub name: String,
-    pub source: String,
-    pub updated: String,
-}
-
-impl Model for Program {
-    ghost use Rattle.std.specs.Prelude.{IsTrue, string_bytes, option_map};
-    ghost use Rattle.script_codec.specs.Spelling.{are_instructions};
-    ghost use Rattle.std.specs.Coded.{codes};
-    ghost use Rattle.cash_tree.specs.contracts.Ty as types;
-    ghost use Rattle.artifact_json.specs.Artifact.{Artifact};
-
-    ghost Value = { Artifact };
-
-    ghost coded = { Prim.hlevel (codes, types.the_row.coded) };
-
-    ghost view = { λ p. record {
-      code = p.code.items;
-      spans = option_map (λ rows. rows.items) p.spans;
-      ctor = p.ctor.items;
-      abi = p.abi.items;
-      name = string_bytes p.name;
-      source = string_bytes p.source;
-      updated = string_bytes p.updated;
-    } };
-
-    ghost invariant = { λ p. IsTrue (are_instructions p.code.items) };
-}
+pub use fault::{ArtifactFault, Field};
+pub use program::{AbiFunction, AbiInput, Program, is_spelled};
+pub use reading::read;
+pub use writing::write;

@@ -30,6 +30,7 @@ use Rattle.script_codec.specs.declared.instr.Instr.{Instr}
 use Rattle.script_codec.specs.declared.instr.Instr.TheVariants.{Push, Do}
 use Rattle.script_codec.specs.declared.spans.Spanned.{Spanned}
 use Rattle.script_codec.specs.Reading.{Raw, Piece, Whole, reading, spelled, instruction, is_minimal, size_of, push}
+use Rattle.script_codec.specs.Names.{is_named, are_named}
 use Rattle.script_codec.specs.Spelling.{are_instructions, is_instruction, spelling, spellings, minimal_push}
 use Rattle.script_codec.specs.Counting.{takes_keys, keys_for, keys_pushed, weight, counted_in}
 use Rattle.bch_vm.specs.declared.outcome.Which.TheVariants.{Redeem}
@@ -46,12 +47,20 @@ use Rattle.span_map.specs.Places.{place_of, place_after}
 use Rattle.cash_compile.specs.Rows.{instructions, places, is_keyless, is_plain, AreFew}
 use Rattle.cash_tree.specs.declared.Param.{Param}
 use Rattle.cash_base.specs.Source.{text_at}
-use Rattle.artifact_json.specs.Artifact.{Artifact, AbiParam, AbiCall, HasFewInputs}
+use Rattle.cash_tree.specs.declared.Ty.TheOpen.{Ty-F}
+use Rattle.cash_tree.specs.declared.Ty.TheViews.{out-Ty}
+use Rattle.form_tables.specs.Forms.{is_int_layer, is_int}
+use Rattle.cash_compile.specs.Form.{are_ints}
+use Rattle.artifact_json.specs.Types.{is_named_layer, is_named_type}
+use Rattle.artifact_json.specs.Artifact.{Artifact, AbiParam, AbiCall, have_named_types, take_named_types, is_spelled, HasFewInputs}
 use Rattle.cash_compile.specs.Compile.{IsAccepted}
 use Rattle.cash_compile.specs.Describes.{described_param, described_function, lossy_at, DescribesBy, Describes}
 use Rattle.script_codec.proofs.Sizes.{push_size}
 use Rattle.tx_context.proofs.Amounts.{active_in_frame}
 use Rattle.cash_parser.specs.Names.{ParamsHave, FunctionHas, NamesHave, IsTextAt}
+use Rattle.cash_base.specs.declared.place.Span.{Span}
+use Rattle.cash_compile.proofs.Decided.{named_spelled}
+use Rattle.cash_compile.proofs.FormShape.{IsEquality}
 use Rattle.cash_compile.proofs.Words.{Laws, names_are_texts}
 use Rattle.cash_compile.specs.Runs.{AgreesAlone, FailsOrEndsFalse, EndsAs, DecidesByRun, AgreesByRun}
 use Rattle.unlocker.specs.Scripts.{handed_in, spending_script, redeem_script}
@@ -111,7 +120,7 @@ no_keys_for : (reads : Reads) (n : ℕ) (code : List Instr) → list_all is_plai
 no_keys_for reads n [] plain = refl
 no_keys_for reads n (instr ∷ code) plain =
     let parts = and_parts _ _ (and_parts _ _ plain).0 in
-    ap (λ (t : Bool). cond t n 0) (takes_no_keys (spelled instr) instr (reads.meant instr parts.0) parts.1)
+    ap (λ (t : Bool). cond t n 0) (takes_no_keys (spelled instr) instr (reads.meant instr (named_spelled instr parts.0)) parts.1)
 
 weight_one : (opcode : ℕ) → weight opcode ≤ 1
 weight_one opcode = one_or_none (nat_lt 0x60 opcode)
@@ -143,7 +152,7 @@ keys_known : (before : Bool) (code : List Instr) → list_all is_plain code ≡ 
 keys_known before [] plain = refl
 keys_known before (instr ∷ code) plain =
     let parts = and_parts _ _ plain in
-    let keyless = asks_nothing instr (and_parts (is_instruction instr) (is_keyless instr) parts.0).1 in
+    let keyless = asks_nothing instr (and_parts (is_named instr) (is_keyless instr) parts.0).1 in
     and_from _ _ (known_after before (not (asks_for_keys instr)) keyless) (keys_known (pushes_key_count instr) code parts.1)
 
 -- ---- the input that is spent
@@ -374,6 +383,35 @@ few_inputs source contract rows program places h describes =
     let size = length-map h.function.params (described_param told) in
     let few : length (map (described_param told) h.function.params) ≤ 16 = omega (arith, size, h.few) in
     subst (AllByRecursion (λ (f : AbiCall). length f.inputs ≤ 16)) (sym one) (few, tt)
+
+-- ---- what a program keeps
+
+all_named : (code : List Instr) → list_all is_plain code ≡ true → are_named code ≡ true
+all_named [] plain = refl
+all_named (instr ∷ code) plain =
+    let parts = and_parts (is_plain instr) (list_all is_plain code) plain in
+    and_from (is_named instr) (are_named code) (and_parts (is_named instr) (is_keyless instr) parts.0).0 (all_named code parts.1)
+
+int_layer : (layer : Ty-F Ty) → is_int_layer layer ≡ true → is_named_layer layer ≡ true
+int_layer Ty-F.Int is = refl
+int_layer _ is = absurd cc
+
+ints_named : (name_at : Span → List ℕ) (params : List (Param Slot)) → are_ints params ≡ true → have_named_types (map (described_param name_at) params) ≡ true
+ints_named name_at [] ints = refl
+ints_named name_at (param ∷ params) ints =
+    let parts = and_parts (is_int param.ty) (are_ints params) ints in
+    and_from (is_named_type param.ty) _ (int_layer (out-Ty param.ty) parts.0) (ints_named name_at params parts.1)
+
+-- each opcode has a name, and each type is int
+pub form_spelled : (name_at : Span → List ℕ) (contract : Contract Slot Ty) (rows : List Spanned) → IsEquality contract → AreFew rows
+    → is_spelled (instructions rows) (map (described_param name_at) contract.params) (map (described_function name_at) contract.functions) ≡ true
+form_spelled name_at contract rows h few =
+    let params : have_named_types (map (described_param name_at) contract.params) ≡ true =
+    ap (λ (ps : List (Param Slot)). have_named_types (map (described_param name_at) ps)) h.no_params in
+    let functions : take_named_types (map (described_function name_at) contract.functions) ≡ true =
+    ap (λ (fs : List (Function Slot Ty)). take_named_types (map (described_function name_at) fs)) h.one_function
+    ∙ and_from (have_named_types (map (described_param name_at) h.f.params)) true (ints_named name_at h.f.params h.body.ints) refl in
+    and_from _ _ (all_named (instructions rows) few.plain) (and_from _ _ params functions)
 
 -- ---- the source of a program
 

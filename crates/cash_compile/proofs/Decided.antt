@@ -17,8 +17,11 @@ use Rattle.source_meaning.specs.declared.outcome.SourceOutcome.{SourceOutcome}
 use Rattle.source_meaning.specs.Meaning.{Env, element, value_of, checked, fails, with_values, no_values, ended, kind_leaves, env_after, env_after_all, source_outcome}
 use Rattle.source_meaning.proofs.StmtSteps.{whole_left, require_leaves}
 use Rattle.tx_context.specs.World.{World}
+use Rattle.script_codec.specs.declared.instr.Instr.{Instr}
+use Rattle.script_codec.specs.declared.instr.Instr.TheVariants.{Push, Do}
 use Rattle.script_codec.specs.declared.spans.Spanned.{Spanned}
-use Rattle.script_codec.specs.Spelling.{are_instructions}
+use Rattle.script_codec.specs.Names.{is_named}
+use Rattle.script_codec.specs.Spelling.{is_instruction, are_instructions}
 use Rattle.opcode_table.specs.Stack.{Stack}
 use Rattle.opcode_table.specs.Table.{rows as table}
 use Rattle.bch_vm.specs.Setting.{Setting, setting_in}
@@ -73,11 +76,16 @@ end_place statement [] k all within = absurd (omega (arith, within))
 end_place statement (r ∷ rows) zero all within = ap Some (same_span r.checking statement (and_parts _ _ (and_parts _ _ all).0).1)
 end_place statement (r ∷ rows) (suc k) all within = end_place statement rows k (and_parts _ _ all).1 (omega (arith, within))
 
+-- an opcode that has a name is above 60
+pub named_spelled : (instr : Instr) → is_named instr ≡ true → is_instruction instr ≡ true
+named_spelled (Push e) is = refl
+named_spelled (Do opcode) is = (and_parts _ _ is).0
+
 all_spelled : (statement : Span) (rows : List Spanned) → are_rows_of statement rows ≡ true → are_instructions (instructions rows) ≡ true
 all_spelled statement [] all = refl
 all_spelled statement (r ∷ rows) all =
     let parts = and_parts _ _ all in
-    and_from _ _ (and_parts _ _ (and_parts _ _ parts.0).0).0 (all_spelled statement rows parts.1)
+    and_from _ _ (named_spelled r.instr (and_parts _ _ (and_parts _ _ parts.0).0).0) (all_spelled statement rows parts.1)
 
 all_plain : (statement : Span) (rows : List Spanned) → are_rows_of statement rows ≡ true → list_all is_plain (instructions rows) ≡ true
 all_plain statement [] all = refl

@@ -25,6 +25,7 @@ use Rattle.source_meaning.specs.declared.outcome.Failure as source
 use Rattle.script_codec.specs.declared.instr.Instr.{Instr}
 use Rattle.script_codec.specs.declared.instr.Instr.TheVariants.{Push, Do}
 use Rattle.script_codec.specs.declared.spans.Spanned.{Spanned}
+use Rattle.script_codec.specs.Names.{named_opcodes}
 use Rattle.opcode_table.specs.Stack.{Stack, shared}
 use Rattle.opcode_table.specs.Deeds.{copied, at_index, element_or_underflow, picked}
 use Rattle.opcode_table.specs.Table.{rows as table}
@@ -46,6 +47,20 @@ opcode n = Do (record { 0 = n })
 -- after an executed instruction
 abbrev pub next : Instr → Progress → Progress
 next instr p = progress_after instr [] p
+
+-- ---- the opcodes that are emitted have names
+
+pub pick_plain : is_plain (opcode 0x79) ≡ true
+unfolding named_opcodes
+pick_plain = refl
+
+pub nip_plain : is_plain (opcode 0x77) ≡ true
+unfolding named_opcodes
+nip_plain = refl
+
+pub equal_plain : is_plain (opcode 0x9c) ≡ true
+unfolding named_opcodes
+equal_plain = refl
 
 -- ---- one more row
 

@@ -7,7 +7,8 @@ use Rattle.cash_base.specs.Failing.{◌>>=◌}
 use Rattle.script_codec.specs.declared.instr.Instr.{Instr}
 use Rattle.script_codec.specs.declared.spans.Spanned.{Spanned}
 use Rattle.script_codec.specs.declared.instr.Instr.TheVariants.{Push, Do}
-use Rattle.script_codec.specs.Spelling.{is_instruction, spellings}
+use Rattle.script_codec.specs.Names.{is_named}
+use Rattle.script_codec.specs.Spelling.{spellings}
 use Rattle.script_codec.specs.Counting.{takes_keys}
 use Rattle.bch_vm.specs.Setting.{Setting}
 use Rattle.bch_vm.specs.Script.{State, state_after, Failure}
@@ -39,9 +40,9 @@ is_keyless (Do opcode) = not (takes_keys opcode.0)
 abbrev pub is_span : Span → Span → Bool
 is_span a b = (a.from == b.from) && (a.to == b.to)
 
--- an instruction that can be spelled, and asks for no keys
+-- an instruction whose opcode has a name, and that asks for no keys
 abbrev pub is_plain : Instr → Bool
-is_plain instr = is_instruction instr && is_keyless instr
+is_plain instr = is_named instr && is_keyless instr
 
 -- the row has such an instruction, and belongs to the statement
 abbrev pub is_row_of : Span → Spanned → Bool

@@ -1,6 +1,6 @@
 //! From a source to the program of its contract.
 
-ghost use Rattle.std.specs.Prelude.{◌≡◌, ◌≢◌, ◌⊎◌, ◌^◌, ◌<◌, ◌≤◌, ℕ, List, length, map, IsSomeAnd, IfOk, IfErr};
+ghost use Rattle.std.specs.Prelude.{◌≡◌, ◌≢◌, ◌⊎◌, ◌^◌, ◌<◌, ◌≤◌, ℕ, List, length, map, IsTrue, IsSomeAnd, IfOk, IfErr};
 ghost use Rattle.std.specs.List.{AllByRecursion};
 ghost use Rattle.cash_base.specs.declared.place.Slot.{Slot};
 ghost use Rattle.cash_tree.specs.declared.Ty.{Ty};
@@ -10,7 +10,7 @@ ghost use Rattle.artifact_json.specs.Artifact.{Artifact, HasFewInputs};
 ghost use Rattle.cash_compile.specs.declared.refusal.Refusal.{Refusal as Cause};
 ghost use Rattle.cash_compile.specs.declared.refusal.Refusal.TheVariants.{Memory as WithoutMemory};
 ghost use Rattle.cash_compile.specs.Rows.{places, AreFew};
-ghost use Rattle.cash_compile.specs.Form.{HasOneFunction};
+ghost use Rattle.cash_compile.specs.Form.{HasOneFunction, is_equality};
 ghost use Rattle.cash_compile.specs.Describes.{IsRowInside};
 ghost use Rattle.cash_compile.specs.Runs.{DecidesByRun, AgreesByRun};
 ghost use Rattle.cash_compile.specs.Emission.{ArePlaced};
@@ -78,6 +78,7 @@ fn correct_program(
     rows: Vec<Spanned>,
 ) -> Result<Program, Memory>
     requires accepted { IsAccepted source.now contract.now }
+    requires form { IsTrue (is_equality contract.now) }
     requires agrees { AgreesByRun contract.now rows.items }
     requires few { AreFew rows.items }
     requires placed { ArePlaced contract.now (map places rows.items) }

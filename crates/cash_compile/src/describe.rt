@@ -3,7 +3,7 @@
 ghost use Rattle.std.specs.Prelude.{◌≡◌, length, map, string_bytes, IfOk, IsTrue};
 ghost use Rattle.std.specs.List.{AllByRecursion};
 ghost use Rattle.std.specs.Str.{IsUtf8};
-ghost use Rattle.script_codec.specs.Spelling.{are_instructions};
+ghost use Rattle.artifact_json.specs.Artifact.{is_spelled};
 ghost use Rattle.cash_compile.specs.Rows.{instructions, places};
 ghost use Rattle.cash_compile.specs.Describes.{IsRowInside, lossy_at, described_param, described_function, DescribesBy};
 
@@ -23,7 +23,8 @@ pub fn program_of(
     contract: &TypedContract,
     rows: Vec<Spanned>,
 ) -> Result<Program, Memory>
-    requires spelled { IsTrue (are_instructions (instructions rows.items)) }
+    requires spelled { IsTrue (is_spelled (instructions rows.items) (map (described_param (lossy_at source.now)) contract.now.params)
+        (map (described_function (lossy_at source.now)) contract.now.functions)) }
     requires utf8 { IsUtf8 source.now }
     requires inside { AllByRecursion (IsRowInside (length source.now)) (map places rows.items) }
     ensures code { IfOk result (λ program. program.code ≡ instructions rows.items) }

@@ -78,7 +78,7 @@ impl Emitter {
         Ok(())
     }
 
-    #[tactic(auto, using(crate::proofs::Emits::emits_name))]
+    #[tactic(auto, using(crate::proofs::Emits::emits_name, crate::proofs::Emits::pick_plain))]
     fn name(&mut self, slot: Slot, depth: usize, span: Span) -> Result<(), AllocError>
         requires known { slot.0 < self.old.params }
         requires room { depth ≤ 1000 }
@@ -97,6 +97,7 @@ impl Emitter {
         Ok(())
     }
 
+    #[tactic(auto, using(crate::proofs::Emits::equal_plain))]
     fn operator(&mut self, op: BinaryOp, span: Span) -> Result<(), AllocError>
         requires { IsTrue (has_code op) }
         ensures rows { OnOk result (self.new.rows.items
@@ -143,6 +144,7 @@ impl Emitter {
     }
 
     /// Drops the parameters below the one value on top.
+    #[tactic(auto, using(crate::proofs::Emits::nip_plain))]
     fn drop_params(&mut self) -> Result<(), AllocError>
         ensures rows { OnOk result (self.new.rows.items ≡ self.old.rows.items
             ++ replicate self.old.params (row (Do (record { 0 = 0x77 })) self.old.statement self.old.statement)) }

@@ -1,11 +1,10 @@
 //! Contracts that are spent.
 
-ghost use Rattle.std.specs.Prelude.{◌≡◌, length, IfOk, IsTrue};
-ghost use Rattle.script_codec.specs.Spelling.{are_instructions};
+ghost use Rattle.std.specs.Prelude.{◌≡◌, length, IfOk};
 ghost use Rattle.artifact_json.specs.Artifact.{HasFewInputs};
 
-use anyhow::Result;
-use artifact_json::{AbiFunction, AbiInput, Program};
+use anyhow::{Result, ensure};
+use artifact_json::{AbiFunction, AbiInput, Program, is_spelled};
 use cash_base::Span;
 use cash_tree::Ty;
 use script_codec::{Instr, Opcode};
@@ -16,9 +15,7 @@ use std::alloc::{AllocError, Global};
 pub const SOURCE: &str = "contract Eq(int a) { function f(int b) { require(a == b); } }";
 
 /// NUMEQUAL, or nothing.
-fn code(alloc: Global, has_code: bool) -> Result<Vec<Instr>, AllocError>
-    ensures { IfOk result (λ code. IsTrue (are_instructions code.items)) }
-{
+fn code(alloc: Global, has_code: bool) -> Result<Vec<Instr>, AllocError> {
     let mut code = Vec::new(alloc);
     if !has_code {
         return Ok(code);
@@ -44,10 +41,16 @@ pub fn contract(alloc: Global, params: &str, functions: &str) -> Result<Program>
         let inputs = parameters(alloc, count.parse::<u8>()?)?;
         abi.push(AbiFunction { name, inputs })?;
     }
+    let code = code(alloc, true)?;
+    let ctor = parameters(alloc, params.parse::<u8>()?)?;
+    ensure!(
+        is_spelled(&code, &ctor, &abi),
+        "the program can't be spelled"
+    );
     Ok(Program {
-        code: code(alloc, true)?,
+        code,
         spans: None,
-        ctor: parameters(alloc, params.parse::<u8>()?)?,
+        ctor,
         abi,
         name: String::from_str(alloc, "C")?,
         source: String::new(alloc),
@@ -78,17 +81,23 @@ fn parameter(alloc: Global, name: &str) -> Result<Vec<AbiInput>, AllocError>
 }
 
 /// The contract of `SOURCE`.
-pub fn equality(alloc: Global, has_code: bool, has_places: bool) -> Result<Program, AllocError>
+pub fn equality(alloc: Global, has_code: bool, has_places: bool) -> Result<Program>
     ensures { IfOk result HasFewInputs }
 {
     let mut abi = Vec::new(alloc);
     let name = String::from_str(alloc, "f")?;
     let inputs = parameter(alloc, "b")?;
     abi.push(AbiFunction { name, inputs })?;
+    let code = code(alloc, has_code)?;
+    let ctor = parameter(alloc, "a")?;
+    ensure!(
+        is_spelled(&code, &ctor, &abi),
+        "the program can't be spelled"
+    );
     Ok(Program {
-        code: code(alloc, has_code)?,
+        code,
         spans: spans(alloc, has_places)?,
-        ctor: parameter(alloc, "a")?,
+        ctor,
         abi,
         name: String::from_str(alloc, "Eq")?,
         source: String::from_str(alloc, SOURCE)?,

@@ -11,6 +11,7 @@ ghost use Rattle.unlocker.specs.Building;
 ghost use Rattle.unlocker.specs.Building.{count_check, built_redeem, built_unlocking};
 
 use artifact_json::Program;
+use artifact_json::laws::spelled_code_is_encoded;
 use cash_base::element::copy_of;
 use cash_base::{Element, MAX_ELEMENT_LEN, Memory, write_number};
 use ripemd160::ripemd160;
@@ -79,6 +80,7 @@ pub fn redeem(alloc: Global, program: &Program, ctor: &[Element]) -> Result<Vec<
         ⊎ (built_redeem program.now (map (λ e. e.items) ctor.now) ≡ Err fault)) }
     ensures size { IfOk result (λ script. length script.items ≤ 520) }
 {
+    spelled_code_is_encoded();
     check_elements(program.ctor.len(), ctor)?;
     let mut script = encode(alloc, pushes(alloc, ctor)?.as_slice())?;
     script.extend_from_slice(encode(alloc, program.code.as_slice())?.as_slice())?;

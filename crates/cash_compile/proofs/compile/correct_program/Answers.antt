@@ -1,5 +1,7 @@
 use Rattle.cash_compile.proofs.Words.{Laws}
-use Rattle.cash_compile.proofs.Correct.{program_correct, decides, few_inputs}
+use Rattle.cash_compile.specs.Describes.{lossy_at}
+use Rattle.cash_compile.proofs.FormShape.{form_is}
+use Rattle.cash_compile.proofs.Correct.{form_spelled, program_correct, decides, few_inputs}
 use Rattle.cash_compile.specs.Runs.{DecidesByRun}
 use Rattle.cash_compile.specs.Rows.{places}
 use Rattle.std.proofs.Common.{◌≤◌, List, length, map, Option, subst, sym}
@@ -9,6 +11,10 @@ use Rattle.cash_compile.specs.Emission.{ArePlaced}
 use Rattle.script_codec.specs.declared.instr.Instr.{Instr}
 use Rattle.script_codec.specs.Spelling.{spellings}
 use Rattle.cash_compile.proofs.compile.correct_program.Goals as goal
+
+pub program_of-requires-clause-spelled : goal.program_of-requires-clause-spelled
+program_of-requires-clause-spelled c =
+    form_spelled (lossy_at c.args.source.now) c.args.contract.now c.args.rows.items (form_is c.args.contract.now c.requires.form) c.requires.few
 
 pub returns : goal.returns
 returns c =

@@ -1,0 +1,5 @@
+pub mod Named
+pub mod Spellings
+pub mod Storable
+pub mod Rereads
+pub mod WholeLaw
