@@ -1,45 +1,15 @@
--- The latest values, as slices of the room's places, and several values one after the other.
-use Rattle.std.proofs.Common.{◌≡◌, ℕ, suc, ◌+◌, ◌-◌, ◌<◌, ◌≤◌, get_or, List, [], ◌∷◌, ◌++◌, length, map, take, drop, Ok, Err, Result, refl, sym, ap, ◌∙◌, subst, arith, append_assoc}
+-- Several values one after the other, and the check of several signatures by them.
+use Rattle.std.proofs.Common.{◌≡◌, ℕ, suc, ◌+◌, ◌<◌, ◌≤◌, get_or, List, [], ◌∷◌, ◌++◌, length, map, take, drop, Ok, Err, Result, refl, sym, ap, ◌∙◌, arith, append_assoc}
 use Rattle.std.specs.Prelude.{reverse}
 use Rattle.std.proofs.lemmas.List.{reverse-append, reverse-reverse, length-reverse, length-map, map-append, take_at, drop_at, length-append, length-drop, take-append-drop, at_drop_more}
 use Rattle.cash_base.specs.Failing.{◌>>=◌}
-use Rattle.source_meaning.specs.declared.outcome.Failure.{Failure}
+use Rattle.meaning_room.specs.declared.outcome.Failure.{Failure}
 use Rattle.cash_base.specs.declared.place.Span.{Span}
 use Rattle.tx_context.specs.World.{World}
 use Rattle.form_tables.specs.Forms.{verdict_result}
 use Rattle.form_tables.specs.declared.forms.CallForm.TheVariants.{CheckMulti}
-use Rattle.source_meaning.specs.Meaning.{Value, Given, One, Node, element, elements, at_span, applied, checked_multi, form_value}
-use Rattle.source_meaning.specs.Stack.{Stack, top, below, pushed_all}
-
--- ---- slices
-
-in_three : {A : Type 0} (f : A → List ℕ) (all under first last : List A) → all ≡ (under ++ first) ++ last
-    → reverse (map f all) ≡ reverse (map f last) ++ (reverse (map f first) ++ reverse (map f under))
-in_three f all under first last whole =
-    ap (λ l. reverse (map f l)) whole ∙ ap reverse (map-append f (under ++ first) last)
-    ∙ reverse-append (map f (under ++ first)) (map f last)
-    ∙ ap (λ l. reverse (map f last) ++ reverse l) (map-append f under first)
-    ∙ ap (λ l. reverse (map f last) ++ l) (reverse-append (map f under) (map f first))
-
-turned_count : {A : Type 0} (f : A → List ℕ) (xs : List A) (n : ℕ) → length xs ≡ n → length (reverse (map f xs)) ≡ n
-turned_count f xs n is = length-reverse (map f xs) ∙ length-map xs f ∙ is
-
--- the last ones
-pub last_ones : {A : Type 0} (f : A → List ℕ) (all under first last : List A) (keys : ℕ) → all ≡ (under ++ first) ++ last → length last ≡ keys
-    → map f last ≡ reverse (take keys (reverse (map f all)))
-last_ones f all under first last keys whole count =
-    sym (ap (λ l. reverse (take keys l)) (in_three f all under first last whole)
-    ∙ ap reverse (take_at (reverse (map f last)) (reverse (map f first) ++ reverse (map f under)) keys (turned_count f last keys count))
-    ∙ reverse-reverse (map f last))
-
--- those before them
-pub first_ones : {A : Type 0} (f : A → List ℕ) (all under first last : List A) (sigs keys : ℕ) → all ≡ (under ++ first) ++ last → length last ≡ keys → length first ≡ sigs
-    → map f first ≡ reverse (take sigs (drop keys (reverse (map f all))))
-first_ones f all under first last sigs keys whole count before =
-    sym (ap (λ l. reverse (take sigs (drop keys l))) (in_three f all under first last whole)
-    ∙ ap (λ l. reverse (take sigs l)) (drop_at (reverse (map f last)) (reverse (map f first) ++ reverse (map f under)) keys (turned_count f last keys count))
-    ∙ ap reverse (take_at (reverse (map f first)) (reverse (map f under)) sigs (turned_count f first sigs before))
-    ∙ reverse-reverse (map f first))
+use Rattle.meaning_room.specs.Meaning.{Value, Node, element, elements, applied, checked_multi, form_value}
+use Rattle.meaning_room.specs.Stack.{Stack, top, below, pushed_all}
 
 -- ---- values one after the other
 
@@ -101,15 +71,6 @@ two_args [] x y more less first second = absurd (omega arith)
 two_args (a ∷ []) x y more less first second = absurd (omega arith)
 two_args (a ∷ b ∷ []) x y more less first second = let one : x ≡ a = first in let two : y ≡ b = second in cc
 two_args (a ∷ b ∷ c ∷ xs) x y more less first second = absurd (omega arith)
-
--- what lies under the latest values
-pub under_all : {A : Type 0} (f : A → List ℕ) (items : List A) (n k : ℕ) → n + k ≡ length items → reverse (map f (take n items)) ≡ drop k (reverse (map f items))
-under_all f items n k is =
-    let count : length (drop n items) ≡ k = omega (arith, length-drop n items, is) in
-    sym (ap (λ l. drop k (reverse (map f l))) (sym (take-append-drop n items))
-    ∙ ap (λ l. drop k (reverse l)) (map-append f (take n items) (drop n items))
-    ∙ ap (drop k) (reverse-append (map f (take n items)) (map f (drop n items)))
-    ∙ drop_at (reverse (map f (drop n items))) (reverse (map f (take n items))) k (turned_count f (drop n items) k count))
 
 -- both lists of elements, as they lie on the stack
 pub record AreBoth (first second : List Value) (s t : Stack) (n m : ℕ) : Type 0 where

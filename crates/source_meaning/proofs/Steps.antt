@@ -19,7 +19,6 @@ use Rattle.cash_tree.specs.declared.Ty.{Ty}
 use Rattle.cash_tree.specs.declared.UnaryOp.{UnaryOp}
 use Rattle.cash_tree.specs.declared.BinaryOp.{BinaryOp}
 use Rattle.cash_tree.specs.declared.Callee.{Callee}
-use Rattle.cash_tree.specs.declared.Expr.{Expr}
 use Rattle.cash_tree.specs.declared.ExprKind.{ExprKind}
 use Rattle.cash_tree.specs.declared.ExprKind.TheVariants as exprs
 use Rattle.cash_tree.specs.declared.ExprKind.TheOpen.{ExprKind-F, Expr-F}
@@ -28,7 +27,7 @@ use Rattle.cash_tree.specs.declared.ExprKind.TheFolds.{fold-roll-Expr, fold-roll
 use Rattle.cash_tree.specs.Nodes.{total, or_none, kind_nodes, node_nodes}
 use Rattle.type_tables.specs.Tables.{TypedExpr, cast_effect}
 use Rattle.form_tables.specs.Forms.{unary_op, is_int, binary_form, binary_result, cast_result}
-use Rattle.source_meaning.specs.Meaning.{Env, One, Two, Value, Node, Kind, fails, at_span, applied, element, part_at, call_value, kind_step, node_step, node_of, kind_of, kind_gives, kind_lists, items_of, value_of}
+use Rattle.meaning_room.specs.Meaning.{Env, One, Two, Node, Kind, fails, at_span, applied, element, part_at, call_value, kind_step, node_step, node_of, kind_of, kind_gives, kind_lists, items_of, value_of}
 use Rattle.source_meaning.specs.Runnable.{node_count, kind_count}
 
 abbrev Layer : Type 0

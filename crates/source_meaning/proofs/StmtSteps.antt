@@ -18,11 +18,11 @@ use Rattle.cash_tree.specs.declared.StmtKind.TheOpen.{StmtKind-F, Stmt-F}
 use Rattle.cash_tree.specs.declared.StmtKind.TheViews.{roll-StmtKind}
 use Rattle.cash_tree.specs.declared.StmtKind.TheFolds.{fold-roll-Stmt, fold-roll-StmtKind}
 use Rattle.type_tables.specs.Tables.{TypedExpr}
-use Rattle.source_meaning.specs.declared.outcome.Failure.{Failure}
-use Rattle.source_meaning.specs.Names.{Held, env_of, has_element}
-use Rattle.source_meaning.specs.Stack.{tested}
-use Rattle.source_meaning.proofs.Places.{outside_marked}
-use Rattle.source_meaning.specs.Meaning.{Env, Doing, outside, in_turn, with_value, element, left_of, right_of, value_of, passed, checked, block, stmt_kind_step, stmt_step, kind_leaves, env_after}
+use Rattle.meaning_room.specs.declared.outcome.Failure.{Failure}
+use Rattle.meaning_room.specs.Names.{Held, env_of, has_element}
+use Rattle.meaning_room.specs.Stack.{tested}
+use Rattle.meaning_room.proofs.Places.{outside_marked}
+use Rattle.meaning_room.specs.Meaning.{Env, Doing, outside, in_turn, with_value, element, left_of, right_of, value_of, passed, checked, block, stmt_kind_step, stmt_step, kind_leaves, env_after}
 use Rattle.source_meaning.specs.Runnable.{has_place, node_count, is_small, all_of, kind_fits, node_fits, has_room, kind_has_room}
 
 abbrev pub TypedStmt : Type 0

@@ -4,7 +4,7 @@ use Rattle.cash_base.specs.Number.{number_of}
 use Rattle.cash_tree.specs.declared.Ty.{Ty}
 use Rattle.cash_tree.specs.declared.Ty.TheOpen.{Ty-F}
 use Rattle.cash_tree.specs.declared.Ty.TheViews.{out-Ty}
-use Rattle.source_meaning.specs.Meaning.{Given, One, Two, left_of, right_of}
+use Rattle.meaning_room.specs.Meaning.{Given, left_of, right_of}
 
 -- an int is a number, and a truth value is the empty element or 01; of every other type any element is a value
 abbrev pub LayerFits : Ty-F Ty → List ℕ → Type 0

@@ -1,5 +1,5 @@
 -- Which contracts the room can run, by what it has places for.
-use Rattle.std.specs.Prelude.{◌≡◌, ℕ, Bool, ◌&&◌, nat_lt, nat_le, List, [], length, map, slice_get, Option, Some, unwrap_or, IsTrue}
+use Rattle.std.specs.Prelude.{◌≡◌, ℕ, Bool, ◌&&◌, nat_lt, nat_le, List, [], length, map, slice_get, Some, unwrap_or, IsTrue}
 use Rattle.std.specs.List.{list_all}
 use Rattle.cash_base.specs.declared.place.Slot.{Slot}
 use Rattle.cash_tree.specs.declared.Ty.{Ty}

@@ -1,14 +1,9 @@
-//! The meaning of a contract: how a run of its source ends.
+//! The run of a contract's source, as its meaning has it, in a room that is reserved at first.
 #![tactic(auto)]
 
 mod evaluate;
 mod execute;
-mod names;
-mod operands;
-pub mod outcome;
 pub mod room;
-pub mod world;
 
-pub use outcome::{Failure, SourceOutcome};
+pub use meaning_room::{Failure, SourceOutcome, World, outcome, world};
 pub use room::SourceRoom;
-pub use world::World;

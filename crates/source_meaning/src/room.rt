@@ -1,17 +1,15 @@
 //! Runs of a contract's source, in a room that is reserved at first, so that they take no memory.
 
 ghost use Rattle.std.specs.Prelude.{◌≡◌, length, map, slice_get, IsTrue, IfSome};
-ghost use Rattle.source_meaning.specs.Meaning.{source_outcome, with_values};
-ghost use Rattle.source_meaning.specs.Names.{env_of};
+ghost use Rattle.meaning_room.specs.Meaning.{source_outcome, with_values};
+ghost use Rattle.meaning_room.specs.Names.{env_of};
 ghost use Rattle.source_meaning.specs.Runnable.{params_have_room, CanRun};
 
-use crate::names::Names;
-use crate::operands::Operands;
-use crate::outcome::{Failure, SourceOutcome};
-use crate::world::World;
+use crate::execute::execute_all;
 use cash_base::element::copy_of;
 use cash_base::{Element, Memory, Slot};
 use cash_tree::{Param, TypedContract};
+use meaning_room::{Failure, Names, Operands, SourceOutcome, World};
 use std::alloc::Global;
 
 /// Places for the values of a run: 1,000 for those of an expression, and 160 for those of names.
@@ -54,7 +52,7 @@ impl SourceRoom {
         give_all(&mut self.names, contract.params.as_slice(), ctor);
         give_all(&mut self.names, function.params.as_slice(), args);
         let body = function.body.as_slice();
-        match self.operands.execute_all(body, &mut self.names, world) {
+        match execute_all(&mut self.operands, body, &mut self.names, world) {
             Ok(()) => SourceOutcome::Met,
             Err(Failure { span, cause }) => SourceOutcome::Failed { span, cause },
         }

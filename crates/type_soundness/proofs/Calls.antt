@@ -1,5 +1,5 @@
 -- What calls and instantiations give, by the types of their arguments.
-use Rattle.std.proofs.Common.{◌≡◌, ◌∙◌, ℕ, Bool, true, false, cond, leb, List, [], ◌∷◌, ◌++◌, length, map, ◌<◌, ◌≤◌, ◌/◌, ◌%◌, Some, None, Result, Ok, Err, refl, sym, ap, subst, arith, lit<}
+use Rattle.std.proofs.Common.{◌≡◌, ℕ, Bool, true, false, cond, leb, List, [], ◌∷◌, length, map, ◌<◌, ◌≤◌, ◌/◌, ◌%◌, Some, Result, Ok, Err, refl, ap, subst, arith, lit<}
 use Rattle.std.specs.Prelude.{slice_get}
 use Rattle.std.specs.List.{AllByRecursion}
 use Rattle.std.proofs.lemmas.Bool.{leb-true}
@@ -15,7 +15,7 @@ use Rattle.element_ops.specs.declared.op.Op2.{Op2}
 use Rattle.element_ops.specs.declared.op.Op2.TheVariants as op2
 use Rattle.element_ops.specs.declared.op.Op3.TheVariants as op3
 use Rattle.element_ops.specs.Operation.{result1, result2, result3, joined}
-use Rattle.tx_context.specs.World.{World, IsWorld}
+use Rattle.tx_context.specs.World.{World}
 use Rattle.cash_tree.specs.declared.Ty.{Ty}
 use Rattle.cash_tree.specs.declared.Ty.TheVariants as ty
 use Rattle.cash_tree.specs.declared.Ty.TheOpen.{Ty-F}
@@ -24,16 +24,14 @@ use Rattle.cash_tree.specs.declared.Builtin.{Builtin}
 use Rattle.cash_tree.specs.declared.Builtin.TheVariants as builtins
 use Rattle.cash_tree.specs.declared.Callee.{Callee}
 use Rattle.cash_tree.specs.declared.Callee.TheVariants as callees
-use Rattle.type_tables.specs.declared.rules.Want.{Want}
 use Rattle.type_tables.specs.declared.rules.Want.TheVariants as wants
-use Rattle.type_tables.specs.declared.rules.Signature.{Signature}
-use Rattle.type_tables.specs.Tables.{Answer, TypedExpr, fits, signature, signature_of, given, given_by, accepts, want_type, counted, keys_counted, sigs_counted, accepted, accepted_at, arguments_suit, items_at, call_type}
+use Rattle.type_tables.specs.Tables.{TypedExpr, fits, signature, given, counted, keys_counted, sigs_counted, accepted, accepted_at, arguments_suit, items_at, call_type}
 use Rattle.form_tables.specs.declared.forms.Lock.{Lock}
 use Rattle.form_tables.specs.declared.forms.Lock.TheVariants as locks
 use Rattle.form_tables.specs.declared.forms.CallForm.TheVariants as forms
 use Rattle.form_tables.specs.Forms.{verdict_result, lock_front, lock_back, data_front, pushed_chunk}
 use Rattle.source_meaning.specs.declared.outcome.Failure.{Failure}
-use Rattle.source_meaning.specs.Meaning.{Env, Given, One, Value, Node, element, elements, appended, locked, with_chunks, applied, form_value, call_value, node_of, value_of, items_of}
+use Rattle.source_meaning.specs.Meaning.{Env, One, Value, Node, element, elements, appended, locked, with_chunks, form_value, call_value, node_of, value_of, items_of}
 use Rattle.type_check.proofs.Typed.{ok_bind, ok_same}
 use Rattle.type_soundness.proofs.Calm.{IsNumber, Calm, calm1, calm2, calm3}
 use Rattle.type_soundness.proofs.Holds.{Laws, TyLayer, LayerHolds, Holds, HoldsGiven, Good, GoodValue, Fine, bind, placed, element_good, applied_good, obeyed, number_is, truth_is, loose, joined_fine, bytes_appended}

@@ -1,5 +1,5 @@
 -- Which operations can't fail by an operand that is no number.
-use Rattle.std.proofs.Common.{◌≡◌, ℕ, ℤ, Bool, true, false, cond, List, [], ◌∷◌, length, leb, eqb, ◌+◌, ◌&&◌, pos, negsuc, neg_ℤ, ◌+ℤ◌, ◌-ℤ◌, ◌*ℤ◌, Option, Some, None, Result, Ok, Err, refl, sym, subst}
+use Rattle.std.proofs.Common.{◌≡◌, ℕ, ℤ, Bool, true, false, cond, List, length, leb, eqb, ◌+◌, ◌&&◌, pos, negsuc, neg_ℤ, ◌+ℤ◌, ◌-ℤ◌, ◌*ℤ◌, Some, Result, Ok, Err, refl, sym, subst}
 use Rattle.std.specs.Prelude.{unsigned_abs, int_div, int_rem}
 use Rattle.std.specs.Int.{int_min, int_max}
 use Rattle.cash_base.specs.declared.fault.Cause.{Cause}
@@ -13,8 +13,8 @@ use Rattle.element_ops.specs.declared.op.Op2.{Op2}
 use Rattle.element_ops.specs.declared.op.Op2.TheVariants as two
 use Rattle.element_ops.specs.declared.op.Op3.{Op3}
 use Rattle.element_ops.specs.declared.op.Op3.TheVariants as three
-use Rattle.element_ops.specs.Operand.{number_element, truth_element, is_in_range}
-use Rattle.element_ops.specs.Width.{shortest, of_width}
+use Rattle.element_ops.specs.Operand.{number_element, is_in_range}
+use Rattle.element_ops.specs.Width.{shortest}
 use Rattle.element_ops.specs.Operation.{Outcome, is_set, divided, bytewise, joined, shortened, padded, cut, result1, result2, result3, split_parts}
 
 -- an operand that is no number

@@ -1,5 +1,5 @@
 -- What casts give, by the types.
-use Rattle.std.proofs.Common.{◌≡◌, ◌∙◌, ℕ, Bool, true, false, cond, leb, pos, List, [], Option, Some, None, Result, Ok, Err, refl, sym, ap, subst}
+use Rattle.std.proofs.Common.{◌≡◌, ℕ, Bool, true, false, cond, leb, pos, List, Some, None, Result, Ok, Err, refl, subst}
 use Rattle.cash_base.specs.declared.fault.Cause.{Cause}
 use Rattle.cash_base.specs.declared.place.Span.{Span}
 use Rattle.cash_base.specs.Failing.{◌>>=◌}
@@ -18,7 +18,7 @@ use Rattle.type_tables.specs.Tables.{fits, suits, explicit_effect, cast_effect, 
 use Rattle.form_tables.specs.Forms.{cast_result}
 use Rattle.type_check.proofs.Typed.{ok_bind}
 use Rattle.type_soundness.proofs.Calm.{IsNumber, calm1, shortened_calm, pad_calm}
-use Rattle.type_soundness.proofs.Holds.{Laws, TyLayer, is_loose, LayerHolds, Holds, Fine, obeyed, number_is, truth_is, loose, truth_number, number_fine}
+use Rattle.type_soundness.proofs.Holds.{Laws, TyLayer, is_loose, Holds, Fine, obeyed, number_is, truth_is, loose, truth_number, number_fine}
 use Rattle.type_soundness.proofs.Types.{IsLoose, suited, stands_for, casts}
 
 then_fine : {A B : Type 0} (P : A → Type 0) (Q : B → Type 0) (r : Result A Cause) (f : A → Result B Cause) → Fine P r → ((x : A) → P x → Fine Q (f x)) → Fine Q (r >>= f)

@@ -1,5 +1,5 @@
 -- What each kind of expression gives is a value of its type.
-use Rattle.std.proofs.Common.{◌≡◌, ◌∙◌, ℕ, ◌*◌, Bool, true, false, cond, eqb, pos, List, [], ◌∷◌, ◌++◌, length, map, Option, Some, None, Result, Ok, Err, refl, sym, ap, subst}
+use Rattle.std.proofs.Common.{◌≡◌, ◌∙◌, ℕ, ◌*◌, Bool, true, false, cond, eqb, pos, List, [], ◌∷◌, ◌++◌, length, map, Some, None, Result, Ok, Err, refl, sym, ap, subst}
 use Rattle.std.specs.Prelude.{unwrap_or, IfOk}
 use Rattle.std.specs.List.{list_all, AllByRecursion}
 use Rattle.std.proofs.lemmas.Bool.{and_parts}
@@ -7,7 +7,6 @@ use Rattle.cash_base.specs.declared.fault.Cause.{Cause}
 use Rattle.cash_base.specs.declared.place.Span.{Span}
 use Rattle.cash_base.specs.declared.place.Slot.{Slot}
 use Rattle.cash_base.specs.Element.{IsElement}
-use Rattle.cash_base.specs.Failing.{◌>>=◌}
 use Rattle.element_ops.specs.declared.op.Op1.TheVariants as op1
 use Rattle.element_ops.specs.declared.op.Op2.TheVariants as op2
 use Rattle.element_ops.specs.Operand.{number_element, truth_element}
@@ -22,20 +21,20 @@ use Rattle.cash_tree.specs.declared.Ty.TheViews.{out-Ty}
 use Rattle.cash_tree.specs.declared.ExprKind.TheOpen.{ExprKind-F, Expr-F}
 use Rattle.cash_tree.specs.declared.ExprKind.TheFolds.{fold-roll-Expr, fold-roll-ExprKind, map-ExprKind}
 use Rattle.cash_base.specs.declared.look.LookAt.{LookAt}
-use Rattle.type_tables.specs.Tables.{Answer, TypedExpr, fits, type_at, suits, cast_effect, look0_type, looked_at, look_at_type, Env as Types}
+use Rattle.type_tables.specs.Tables.{TypedExpr, fits, type_at, suits, cast_effect, look0_type, looked_at, look_at_type, Env as Types}
 use Rattle.form_tables.specs.Forms.{unary_op, is_int, binary_form, binary_result, cast_result}
-use Rattle.source_meaning.specs.Meaning.{Env, Given, One, Two, Value, Node, Kind, left_of, right_of, at_span, applied, element, part_at, kind_step, node_step, node_of, kind_of, value_of}
+use Rattle.source_meaning.specs.Meaning.{Env, Given, Two, Node, Kind, left_of, right_of, at_span, element, part_at, kind_step, node_step, node_of, kind_of, value_of}
 use Rattle.type_check.specs.Shapes.{Place, TypedKind, NamedExpr, typed}
 use Rattle.type_check.specs.Typing.{HasType}
 use Rattle.type_check.proofs.Typed.{ok_bind, ok_same}
 use Rattle.type_soundness.specs.Literals.{parts, spells_bytes, holds_bytes}
 use Rattle.type_soundness.proofs.Calm.{IsNumber, Calm, split_calm}
-use Rattle.type_soundness.proofs.Holds.{Laws, TyLayer, LayerHolds, Holds, HoldsGiven, Good, GoodValue, Fine, bind, placed, applied_good, loosened, obeyed, number_is, loose, loosely, number_fine, truth_fine, sized_fine}
-use Rattle.type_soundness.proofs.Types.{IsLoose, number_typed, date_typed, hex_typed, text_typed, length_typed, reverse_typed, Splits, split_typed, index_typed, suited}
+use Rattle.type_soundness.proofs.Holds.{Laws, TyLayer, LayerHolds, Holds, HoldsGiven, GoodValue, Fine, bind, placed, applied_good, loosened, obeyed, number_is, loose, loosely, number_fine, truth_fine, sized_fine}
+use Rattle.type_soundness.proofs.Types.{number_typed, date_typed, hex_typed, text_typed, length_typed, reverse_typed, Splits, split_typed, index_typed, suited}
 use Rattle.type_soundness.proofs.Looks.{context_fine, indexed_fine}
 use Rattle.type_soundness.proofs.Operators.{int_fine, bool_fine, int_of, number_in, unary_fine, binary_fine}
 use Rattle.type_soundness.proofs.Calls.{Sound, then_one, call_good}
-use Rattle.type_soundness.proofs.Casts.{padded_fine, cast_fine, Sized, sized_typed}
+use Rattle.type_soundness.proofs.Casts.{padded_fine, cast_fine, sized_typed}
 use Rattle.type_soundness.proofs.View.{Layer, kind_of_layer, rule_of, kind_spelled, expr_spelled, Follows, of_each}
 
 -- each name has a value of its type

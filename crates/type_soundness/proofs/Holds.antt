@@ -1,5 +1,5 @@
 -- What holds of a value of a type, of what may fail, and of operations.
-use Rattle.std.proofs.Common.{◌≡◌, ℕ, ℤ, Bool, true, false, cond, List, [], ◌∷◌, ◌++◌, length, leb, ltb, ◌+◌, ◌^◌, ◌<◌, ◌≤◌, pos, Result, Ok, Err, refl, sym, ap, subst, arith, inl, inr, ◌⊎◌, lit<, length-append}
+use Rattle.std.proofs.Common.{◌≡◌, ℕ, ℤ, Bool, true, false, cond, List, [], ◌∷◌, ◌++◌, length, leb, ◌+◌, ◌^◌, ◌<◌, pos, Result, Ok, Err, refl, sym, subst, arith, inl, inr, ◌⊎◌, lit<, length-append}
 use Rattle.std.specs.Prelude.{nat_lt, unsigned_abs}
 use Rattle.std.proofs.lemmas.Bool.{leb-true, ltb-true}
 use Rattle.std.proofs.lemmas.Bool.Decides.{nat_tests}
@@ -9,8 +9,7 @@ use Rattle.cash_base.specs.declared.element.TheConstants.{MAX_ELEMENT_LEN}
 use Rattle.cash_base.specs.declared.place.Span.{Span}
 use Rattle.cash_base.specs.Element.{IsElement}
 use Rattle.cash_base.specs.Failing.{◌>>=◌}
-use Rattle.cash_base.specs.Number.{IsBytes, number_of, minimal_bytes}
-use Rattle.cash_base.specs.Operand.{truth_bytes}
+use Rattle.cash_base.specs.Number.{IsBytes, minimal_bytes}
 use Rattle.cash_base.proofs.Laws.{number_of-minimal_bytes}
 use Rattle.cash_base.proofs.Widths.{minimal_bytes-IsElement}
 use Rattle.element_ops.specs.declared.op.Op1.{Op1}
@@ -24,8 +23,8 @@ use Rattle.cash_tree.specs.declared.Ty.{Ty}
 use Rattle.cash_tree.specs.declared.Ty.TheOpen.{Ty-F}
 use Rattle.cash_tree.specs.declared.Ty.TheViews.{out-Ty}
 use Rattle.source_meaning.specs.declared.outcome.Failure.{Failure}
-use Rattle.source_meaning.specs.Meaning.{Given, One, Two, Value, left_of, right_of, at_span, applied, element, appended}
-use Rattle.type_soundness.proofs.Calm.{is_no_number, Calm, IsNumber, number_calm}
+use Rattle.source_meaning.specs.Meaning.{Given, Value, left_of, right_of, at_span, applied, element}
+use Rattle.type_soundness.proofs.Calm.{is_no_number, Calm, IsNumber}
 
 -- what holds of every operation
 pub record Laws : Type 0 where

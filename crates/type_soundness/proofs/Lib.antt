@@ -12,3 +12,4 @@ pub mod Parts
 pub mod Statements
 pub mod Whole
 pub mod Rooms
+pub mod Plain

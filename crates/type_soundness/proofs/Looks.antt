@@ -1,5 +1,5 @@
 -- What a world answers: look-ups, times and verdicts.
-use Rattle.std.proofs.Common.{◌≡◌, ℕ, ℤ, Bool, true, false, cond, List, [], ◌∷◌, length, ltb, ◌^◌, ◌<◌, pos, negsuc, Option, Some, None, Result, Ok, Err, refl, sym, ap, subst, arith}
+use Rattle.std.proofs.Common.{◌≡◌, ℕ, ℤ, Bool, true, false, cond, List, [], ◌∷◌, length, ◌^◌, ◌<◌, pos, negsuc, Option, Some, None, Result, Ok, Err, refl, sym, subst, arith}
 use Rattle.std.specs.Prelude.{not, nat_lt, nat_le, slice_get, IfOk, reverse, ◌==◌, ◌&&◌, unsigned_abs}
 use Rattle.std.specs.List.{list_any}
 use Rattle.std.proofs.lemmas.Bool.{and_parts}
@@ -16,11 +16,10 @@ use Rattle.cash_base.specs.Failing.{◌>>=◌, ◌>>◌, refused_if}
 use Rattle.cash_base.specs.Number.{IsBytes}
 use Rattle.cash_base.specs.Operand.{operand_number, number_or_cause}
 use Rattle.cash_base.proofs.Widths.{minimal_bytes-IsElement}
-use Rattle.tx_context.specs.Bytes.{are_bytes}
-use Rattle.tx_context.specs.Transaction.{InputParts, OutputParts, Transaction}
+use Rattle.tx_context.specs.Transaction.{InputParts, Transaction}
 use Rattle.tx_context.specs.Table.{Row}
 use Rattle.tx_context.specs.Limits.{IsContext, is_typed_input, is_great_value}
-use Rattle.tx_context.specs.Lookup.{number_bytes, sized, context_value, item_or_cause, item_at, value_at, indexed_value, time_outcome, age_outcome, is_no_lock, has_bit, is_age_missed}
+use Rattle.tx_context.specs.Lookup.{number_bytes, sized, context_value, item_or_cause, item_at, indexed_value, time_outcome, age_outcome, is_no_lock, has_bit, is_age_missed}
 use Rattle.tx_context.specs.Verdict.{answer_in, failed_check, one_outcome, single_verdict, step_outcome, are_met, many_outcome, multi_verdict}
 use Rattle.tx_context.specs.declared.verdict.Kind.{Kind}
 use Rattle.tx_context.specs.declared.verdict.Kind.TheVariants.{Multi}
@@ -29,7 +28,6 @@ use Rattle.tx_context.specs.declared.verdict.Answer.TheVariants.{Good as GoodAns
 use Rattle.tx_context.proofs.Within.{facts_of}
 use Rattle.tx_context.proofs.Amounts.{all_at_number, input_amount, output_amount}
 use Rattle.tx_context.proofs.Elements.{whole, indexed}
-use Rattle.cash_tree.specs.declared.Ty.{Ty}
 use Rattle.cash_tree.specs.declared.Ty.TheVariants as ty
 use Rattle.cash_tree.specs.declared.Ty.TheOpen.{Ty-F}
 use Rattle.cash_tree.specs.declared.Ty.TheViews.{out-Ty}

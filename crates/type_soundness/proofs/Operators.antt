@@ -1,5 +1,5 @@
 -- What the operators of the language give, by the types of their sides.
-use Rattle.std.proofs.Common.{◌≡◌, ◌∙◌, ℕ, Bool, true, false, cond, ◌||◌, List, [], Result, Ok, Err, refl, sym, ap, subst, inl, inr}
+use Rattle.std.proofs.Common.{◌≡◌, ◌∙◌, ℕ, Bool, true, false, cond, ◌||◌, List, Ok, refl, sym, ap, subst, inl, inr}
 use Rattle.std.specs.Str.{bytes_eq}
 use Rattle.cash_base.specs.declared.place.Span.{Span}
 use Rattle.cash_base.specs.Failing.{◌>>=◌}
@@ -18,12 +18,12 @@ use Rattle.cash_tree.specs.declared.UnaryOp.{UnaryOp}
 use Rattle.cash_tree.specs.declared.UnaryOp.TheVariants as unary_ops
 use Rattle.cash_tree.specs.declared.BinaryOp.{BinaryOp}
 use Rattle.cash_tree.specs.declared.BinaryOp.TheVariants as ops
-use Rattle.type_tables.specs.Tables.{Answer, fits, layer_fits, allowed, suits, is_bytes, is_bytes_layer, is_single, unary_operand, unary_type, both_sides, joined, bytes_sum, addend, sum_type, meet, equality_type, wider, bitwise_type, binary_type}
+use Rattle.type_tables.specs.Tables.{Answer, fits, layer_fits, allowed, suits, is_bytes, is_bytes_layer, is_single, unary_operand, unary_type, both_sides, joined, bytes_sum, sum_type, meet, equality_type, wider, bitwise_type, binary_type}
 use Rattle.form_tables.specs.Forms.{unary_op, is_int, is_int_layer, binary_form, binary_result}
 use Rattle.type_check.proofs.Typed.{ok_bind, ok_same}
 use Rattle.type_soundness.proofs.Calm.{IsNumber, calm1, calm2, and_calm, or_calm, xor_calm}
-use Rattle.type_soundness.proofs.Holds.{Laws, TyLayer, is_loose, LayerHolds, Holds, Fine, obeyed, number_is, truth_is, loose, loosely, truth_number, truth_fine, joined_fine, nothing-IsElement, one-IsElement}
-use Rattle.type_soundness.proofs.Types.{IsLoose, out_int, out_bool, out_text, is_allowed, suited, an_int, a_bool, Sides, sides, int_is, met_int, loose_wider, loose_joined, loose_text}
+use Rattle.type_soundness.proofs.Holds.{Laws, TyLayer, LayerHolds, Holds, Fine, obeyed, number_is, truth_is, loose, loosely, truth_number, truth_fine, joined_fine, nothing-IsElement, one-IsElement}
+use Rattle.type_soundness.proofs.Types.{IsLoose, out_int, out_bool, out_text, is_allowed, suited, an_int, a_bool, sides, int_is, met_int, loose_wider, loose_joined, loose_text}
 
 -- ---- known types
 

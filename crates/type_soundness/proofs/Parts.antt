@@ -1,21 +1,20 @@
 -- What types a statement, by its line in the table, and what a typed statement leaves and holds, by its layer.
-use Rattle.std.proofs.Common.{◌≡◌, ◌∙◌, ap, sym, subst, refl, List, [], ◌∷◌, ◌++◌, map, Option, Some, None, Result, Ok}
+use Rattle.std.proofs.Common.{◌≡◌, ◌∙◌, ap, subst, refl, List, [], ◌∷◌, ◌++◌, Some, None, Ok}
 use Rattle.std.specs.List.{AllByRecursion}
 use Rattle.cash_base.specs.declared.place.Span.{Span}
 use Rattle.cash_base.specs.declared.place.Slot.{Slot}
 use Rattle.tx_context.specs.World.{World}
 use Rattle.cash_tree.specs.declared.Ty.{Ty}
-use Rattle.cash_tree.specs.declared.Expr.{Expr}
 use Rattle.cash_tree.specs.declared.StmtKind.TheVariants as stmts
 use Rattle.cash_tree.specs.declared.StmtKind.TheOpen.{StmtKind-F, Stmt-F}
 use Rattle.cash_tree.specs.declared.StmtKind.TheViews.{roll-StmtKind, out-roll-StmtKind}
-use Rattle.cash_tree.specs.declared.StmtKind.TheFolds.{fold-Stmt, fold-StmtKind, fold-roll-Stmt, fold-roll-StmtKind, map-StmtKind}
-use Rattle.cash_tree.specs.Nodes.{joined, kind_values, stmt_values, values}
+use Rattle.cash_tree.specs.declared.StmtKind.TheFolds.{fold-StmtKind, fold-roll-Stmt, fold-roll-StmtKind, map-StmtKind}
+use Rattle.cash_tree.specs.Nodes.{kind_values, stmt_values, values}
 use Rattle.type_tables.specs.Tables.{Answer, TypedExpr, Env as Types}
 use Rattle.type_check.specs.Shapes as shapes
 use Rattle.type_check.specs.Shapes.{StmtShape, NamedExpr, NamedStmt, NamedStmtKind, TypedStmt, TypedStmtKind, StmtLayer, stmt_shape, opened_stmt, stmt, stmt_of}
 use Rattle.type_check.specs.Typing.{HasType, TypesStmt, TypesShape, TypesRun, statement, held, if_only, if_else, done, step}
-use Rattle.source_meaning.specs.Meaning.{Env, Doing, stmt_kind_step, stmt_step, kind_leaves, env_after}
+use Rattle.source_meaning.specs.Meaning.{Doing, stmt_kind_step, stmt_step, kind_leaves, env_after}
 
 -- ---- what types it
 

@@ -1,5 +1,5 @@
 -- The room of a run has places for what is named and typed.
-use Rattle.std.proofs.Common.{◌≡◌, ◌∙◌, ℕ, zero, suc, ◌+◌, ◌<◌, ◌≤◌, Bool, true, false, ◌&&◌, List, [], ◌∷◌, ◌++◌, map, length, Option, Some, None, refl, sym, ap, subst, arith}
+use Rattle.std.proofs.Common.{◌≡◌, ◌∙◌, ℕ, zero, suc, ◌+◌, ◌<◌, ◌≤◌, Bool, true, false, ◌&&◌, List, [], ◌∷◌, ◌++◌, map, Some, None, refl, sym, ap, subst, arith}
 use Rattle.std.specs.Prelude.{slice_get}
 use Rattle.std.specs.List.{AllByRecursion}
 use Rattle.std.proofs.lemmas.Bool.{lt-ltb, ltb-true, le-leb}
@@ -20,14 +20,14 @@ use Rattle.cash_names.specs.Scopes.{NamesStmt, NamesAll, NamesParams, NamesFunct
 use Rattle.cash_names.proofs.TreeKept.{tree_small}
 use Rattle.type_tables.specs.Tables.{TypedExpr, Env as Types}
 use Rattle.type_check.specs.Shapes.{NamedExpr, NamedStmt, TypedStmt, TypedStmtKind, stmt_of, with_params}
-use Rattle.type_check.specs.Outline.{NamedContract, TypedFunction, TypedContract, function_of, contract_of}
-use Rattle.type_check.specs.Typing.{TypesStmt, TypesRun, TypesFunction, TypesFunctions, TypesContract}
+use Rattle.type_check.specs.Outline.{TypedFunction, TypedContract, function_of, contract_of}
+use Rattle.type_check.specs.Typing.{TypesStmt, TypesRun, TypesFunction, TypesFunctions}
 use Rattle.type_check.proofs.Laws.{are_alike}
-use Rattle.source_meaning.specs.Runnable.{most_names, has_place, node_count, is_small, all_of, kind_fits, node_fits, has_room, kind_has_room, params_have_room, CanRun}
+use Rattle.source_meaning.specs.Runnable.{has_place, node_count, is_small, all_of, kind_fits, node_fits, has_room, kind_has_room, params_have_room}
 use Rattle.type_soundness.specs.Room.{ContractsHaveRoom}
 use Rattle.type_soundness.proofs.Scopes.{found_below}
 use Rattle.type_soundness.proofs.Parts.{StmtParts, stmt_parts, run_parts, TypedLayer, kind_values_of, holds_values}
-use Rattle.type_soundness.proofs.Whole.{FunctionParts, function_parts, functions_parts, contract_parts}
+use Rattle.type_soundness.proofs.Whole.{function_parts, functions_parts, contract_parts}
 
 -- ---- tests
 

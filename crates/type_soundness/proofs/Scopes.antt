@@ -15,7 +15,6 @@ use Rattle.type_tables.specs.Tables.{is_single, is_single_layer, layer_fits, fit
 use Rattle.type_check.specs.Shapes.{with_name}
 use Rattle.source_meaning.specs.Meaning.{Env, with_value, outside}
 use Rattle.type_soundness.proofs.Holds.{TyLayer, LayerHolds, Holds, nothing-IsElement}
-use Rattle.type_soundness.proofs.Types.{out_int}
 use Rattle.type_soundness.proofs.Expressions.{NamesHold}
 
 -- ---- types of names

@@ -1,5 +1,5 @@
 -- What statements leave are values of the types of names, and no failure is that an operand is no number.
-use Rattle.std.proofs.Common.{◌≡◌, ◌∙◌, ℕ, ◌+◌, ◌<◌, ◌≤◌, Bool, true, false, cond, List, [], ◌∷◌, ◌++◌, map, Option, Some, None, Result, Ok, Err, refl, sym, ap, subst, arith, inl, inr}
+use Rattle.std.proofs.Common.{◌≡◌, ◌∙◌, ℕ, ◌+◌, ◌<◌, ◌≤◌, Bool, true, false, cond, List, [], ◌∷◌, ◌++◌, map, Some, None, Result, Ok, Err, refl, sym, ap, subst, arith}
 use Rattle.std.specs.Prelude.{unwrap_or}
 use Rattle.std.specs.List.{AllByRecursion}
 use Rattle.cash_base.specs.declared.fault.Cause.{Cause}
@@ -16,7 +16,6 @@ use Rattle.cash_tree.specs.declared.Ty.TheVariants as ty
 use Rattle.cash_tree.specs.declared.Ty.TheOpen.{Ty-F}
 use Rattle.cash_tree.specs.declared.Ty.TheViews.{out-Ty}
 use Rattle.cash_tree.specs.declared.Param.{Param}
-use Rattle.cash_tree.specs.declared.StmtKind.TheVariants as stmts
 use Rattle.cash_tree.specs.declared.StmtKind.TheOpen.{StmtKind-F}
 use Rattle.cash_tree.specs.declared.StmtKind.TheViews.{roll-StmtKind}
 use Rattle.cash_tree.specs.declared.StmtKind.TheFolds.{map-StmtKind}
@@ -26,22 +25,22 @@ use Rattle.name_scopes.specs.Names.{Names, look, slot, slot_of, slot_at, declare
 use Rattle.cash_names.specs.Outline.{Statement, slotted}
 use Rattle.cash_names.specs.Scopes as scopes
 use Rattle.cash_names.specs.Scopes.{NamesStmt, NamesAll}
-use Rattle.type_tables.specs.Tables.{Answer, TypedExpr, fits, suits, is_single, type_at, pair_suits, pair_layer, both_suit, Env as Types}
-use Rattle.type_check.specs.Shapes.{NamedExpr, NamedStmt, NamedStmtKind, StmtLayer, TypedStmt, TypedStmtKind, stmt, stmt_of, with_name}
+use Rattle.type_tables.specs.Tables.{TypedExpr, fits, suits, is_single, type_at, pair_suits, pair_layer, Env as Types}
+use Rattle.type_check.specs.Shapes.{NamedExpr, NamedStmt, TypedStmt, TypedStmtKind, stmt_of, with_name}
 use Rattle.type_check.specs.Typing.{HasType, TypesStmt, TypesRun}
 use Rattle.type_check.proofs.Typed.{ok_bind}
 use Rattle.source_meaning.specs.declared.outcome.Failure.{Failure}
-use Rattle.source_meaning.specs.Meaning.{Env, Given, Doing, left_of, right_of, with_value, outside, element, value_of, in_turn, block, picked, checked, passed, stmt_kind_step, kind_leaves, env_after}
+use Rattle.source_meaning.specs.Meaning.{Env, Given, Doing, left_of, right_of, with_value, element, value_of, in_turn, block, passed, stmt_kind_step, kind_leaves, env_after}
 use Rattle.type_soundness.specs.Literals.{holds_bytes}
-use Rattle.type_soundness.proofs.Calm.{Calm, IsNumber}
+use Rattle.type_soundness.proofs.Calm.{Calm}
 use Rattle.type_soundness.proofs.Holds.{Laws, TyLayer, is_loose, LayerHolds, Holds, HoldsGiven, Good, bind, element_good, loose}
-use Rattle.type_soundness.proofs.Types.{IsLoose, suited, stands_for, an_int}
+use Rattle.type_soundness.proofs.Types.{suited, stands_for}
 use Rattle.type_soundness.proofs.Looks.{time_calm, age_calm}
 use Rattle.type_soundness.proofs.Operators.{int_of}
 use Rattle.type_soundness.proofs.Calls.{Sound}
 use Rattle.type_soundness.proofs.Expressions.{expression_sound}
-use Rattle.type_soundness.proofs.Scopes.{type_same, Scope, Grows, own_type, declares, Agrees, set_value, widened, left_block, single_of}
-use Rattle.type_soundness.proofs.Parts.{Simple, Alone, Both, StmtParts, stmt_parts, RunParts, run_parts, TypedLayer, leaves, kind_values_of, holds_values, apart}
+use Rattle.type_soundness.proofs.Scopes.{Scope, Grows, own_type, declares, Agrees, set_value, widened, left_block, single_of}
+use Rattle.type_soundness.proofs.Parts.{StmtParts, stmt_parts, run_parts, TypedLayer, leaves, kind_values_of, holds_values, apart}
 
 -- the world of a run, and what holds of operations
 pub record Setting : Type 0 where

@@ -1,19 +1,16 @@
 -- What the rules of types say of the types of a node and of its parts.
-use Rattle.std.proofs.Common.{◌≡◌, ◌∙◌, ℕ, ℤ, Bool, true, false, cond, ◌||◌, ◌&&◌, leb, ltb, eqb, ◌+◌, ◌-◌, ◌^◌, List, [], ◌∷◌, length, Option, Some, None, Result, Ok, Err, refl, sym, ap, subst}
-use Rattle.std.specs.Prelude.{nat_le, nat_lt}
+use Rattle.std.proofs.Common.{◌≡◌, ◌∙◌, ℕ, ℤ, Bool, true, false, cond, ◌||◌, ◌&&◌, leb, eqb, ◌+◌, ◌-◌, List, Option, Some, None, Ok, Err, refl, ap, subst}
+use Rattle.std.specs.Prelude.{nat_lt}
 use Rattle.cash_base.specs.declared.place.Span.{Span}
-use Rattle.cash_base.specs.declared.look.Look0.{Look0}
 use Rattle.cash_base.specs.Failing.{◌>>=◌}
 use Rattle.cash_tree.specs.declared.Ty.{Ty}
 use Rattle.cash_tree.specs.declared.Ty.TheVariants as ty
 use Rattle.cash_tree.specs.declared.Ty.TheOpen.{Ty-F}
 use Rattle.cash_tree.specs.declared.Ty.TheViews.{out-Ty, roll-Ty, out-roll-Ty}
-use Rattle.type_tables.specs.declared.fault.TypeFault.{TypeFault}
 use Rattle.type_tables.specs.declared.fault.TypeFault.TheVariants as faults
 use Rattle.type_tables.specs.declared.rules.CastEffect.{CastEffect}
-use Rattle.type_tables.specs.declared.rules.CastEffect.TheVariants as effects
-use Rattle.type_tables.specs.Tables.{Answer, Layer, layer_fits, fits, allowed, suits, is_bytes, is_bytes_layer, is_sequence, in_range, number_type, date_type, hex_type, text_type, both_sides, joined, joined_layers, length_type, reverse_type, reversed, reversed_layer, split_type, split_parts, split_layer, cut_parts, index_type, index_layer, part_at, no_pair, wider, cast_by, sized_layer}
-use Rattle.form_tables.specs.Forms.{is_int, is_int_layer}
+use Rattle.type_tables.specs.Tables.{layer_fits, fits, allowed, suits, is_bytes, is_bytes_layer, is_sequence, in_range, number_type, date_type, hex_type, text_type, both_sides, joined, joined_layers, length_type, reverse_type, reversed, reversed_layer, split_type, split_parts, split_layer, cut_parts, index_type, index_layer, wider, cast_by}
+use Rattle.form_tables.specs.Forms.{is_int_layer}
 use Rattle.type_check.proofs.Typed.{ok_bind, ok_same}
 use Rattle.type_soundness.proofs.Holds.{TyLayer, is_loose, LayerHolds}
 

@@ -1,13 +1,12 @@
 -- A typed node by its layer: its parts, its rule, and what its parts give it.
-use Rattle.std.proofs.Common.{◌≡◌, ◌∙◌, ap, sym, subst, refl, ℕ, ◌+◌, Bool, true, ◌&&◌, List, [], ◌∷◌, length, map, Some, None, Result, Ok}
+use Rattle.std.proofs.Common.{◌≡◌, ◌∙◌, ap, sym, subst, refl, ℕ, ◌+◌, Bool, ◌&&◌, List, [], ◌∷◌, length, map, Some, None, Ok}
 use Rattle.std.specs.List.{list_all, AllByRecursion}
 use Rattle.cash_base.specs.declared.place.Span.{Span}
 use Rattle.cash_base.specs.declared.place.Slot.{Slot}
 use Rattle.cash_tree.specs.declared.Ty.{Ty}
 use Rattle.cash_tree.specs.declared.Ty.TheVariants as ty
-use Rattle.cash_tree.specs.declared.ExprKind.TheVariants as exprs
 use Rattle.cash_tree.specs.declared.ExprKind.TheOpen.{ExprKind-F, Expr-F}
-use Rattle.cash_tree.specs.declared.ExprKind.TheViews.{roll-ExprKind, roll-out-ExprKind}
+use Rattle.cash_tree.specs.declared.ExprKind.TheViews.{roll-ExprKind}
 use Rattle.cash_tree.specs.declared.ExprKind.TheFolds.{fold-roll-Expr, fold-roll-ExprKind, map-ExprKind}
 use Rattle.type_tables.specs.declared.rules.Signature.{Signature}
 use Rattle.type_tables.specs.Tables.{Answer, TypedExpr, Env, place_at, number_type, date_type, hex_type, text_type, type_at, unary_type, binary_type, length_type, reverse_type, split_type, literal_of, index_type, cast_type, sized_cast_type, call_type, array_type, look0_type, look_at_type}
@@ -82,7 +81,7 @@ layer_views (ExprKind-F.LookAt look a) span place env = λ x. record { layer = E
 
 -- ---- literals
 
-parts_mapped : {K E L F : Type 0} (g : K → L) (f : E → F) (layer : ExprKind-F Slot Ty K E) → parts (map-ExprKind Slot Ty K E L F g f layer) ≡ map f (parts layer)
+pub parts_mapped : {N T K E L F : Type 0} (g : K → L) (f : E → F) (layer : ExprKind-F N T K E) → parts (map-ExprKind N T K E L F g f layer) ≡ map f (parts layer)
 parts_mapped g f (ExprKind-F.Int digits unit) = refl
 parts_mapped g f (ExprKind-F.Bool b) = refl
 parts_mapped g f (ExprKind-F.Hex bytes) = refl
@@ -103,7 +102,7 @@ parts_mapped g f (ExprKind-F.Array items) = refl
 parts_mapped g f (ExprKind-F.Look0 look) = refl
 parts_mapped g f (ExprKind-F.LookAt look a) = refl
 
-spelling_mapped : {K E L F : Type 0} (g : K → L) (f : E → F) (layer : ExprKind-F Slot Ty K E) → spells_bytes (map-ExprKind Slot Ty K E L F g f layer) ≡ spells_bytes layer
+pub spelling_mapped : {N T K E L F : Type 0} (g : K → L) (f : E → F) (layer : ExprKind-F N T K E) → spells_bytes (map-ExprKind N T K E L F g f layer) ≡ spells_bytes layer
 spelling_mapped g f (ExprKind-F.Int digits unit) = refl
 spelling_mapped g f (ExprKind-F.Bool b) = refl
 spelling_mapped g f (ExprKind-F.Hex bytes) = refl

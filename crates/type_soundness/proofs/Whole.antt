@@ -1,5 +1,5 @@
 -- Of whole contracts, and of expressions in the words of the definition.
-use Rattle.std.proofs.Common.{◌≡◌, ◌≢◌, ◌∙◌, ℕ, zero, suc, ◌+◌, ◌<◌, ◌≤◌, Bool, true, false, List, [], ◌∷◌, ◌++◌, map, Option, Some, None, Result, Ok, Err, refl, sym, ap, subst, arith, inl, inr, pos}
+use Rattle.std.proofs.Common.{◌≡◌, ◌≢◌, ◌∙◌, ℕ, zero, suc, ◌+◌, Bool, true, false, List, [], ◌∷◌, ◌++◌, map, Some, None, Result, Ok, Err, refl, sym, ap, subst, arith}
 use Rattle.std.specs.Prelude.{unwrap_or, slice_get}
 use Rattle.std.specs.List.{AllByRecursion}
 use Rattle.cash_base.specs.declared.fault.Cause.{Cause}
@@ -7,38 +7,35 @@ use Rattle.cash_base.specs.declared.fault.Cause.TheVariants.{NotANumber}
 use Rattle.cash_base.specs.declared.place.Span.{Span}
 use Rattle.cash_base.specs.declared.place.Slot.{Slot}
 use Rattle.cash_base.specs.Source.{text_at}
-use Rattle.tx_context.specs.World.{World, IsWorld}
+use Rattle.tx_context.specs.World.{World}
 use Rattle.cash_tree.specs.declared.Ty.{Ty}
 use Rattle.cash_tree.specs.declared.Ty.TheVariants as ty
 use Rattle.cash_tree.specs.declared.Ty.TheOpen.{Ty-F}
 use Rattle.cash_tree.specs.declared.Ty.TheViews.{out-Ty}
 use Rattle.cash_tree.specs.declared.Param.{Param}
 use Rattle.cash_tree.specs.Nodes.{joined, values}
-use Rattle.name_scopes.specs.declared.scope.Variable.{Variable}
-use Rattle.name_scopes.specs.Names.{Names, no_names, opened, most_params, most_functions, most_definitions, look, slot, with_variable}
-use Rattle.cash_names.specs.Outline.{Statement, Tree, NamedTree, FunctionTree, NamedFunction, slotted}
+use Rattle.name_scopes.specs.Names.{Names, no_names, opened, most_params, most_functions, most_definitions, slot, with_variable}
+use Rattle.cash_names.specs.Outline.{Statement, Tree, NamedTree, FunctionTree, NamedFunction}
 use Rattle.cash_names.specs.Scopes as scopes
 use Rattle.cash_names.specs.Scopes.{NamesAll, NamesParams, NamesFunctions, IsNamed}
 use Rattle.type_tables.specs.Tables.{TypedExpr, is_single, is_single_layer, type_at, Env as Types}
-use Rattle.type_check.specs.Shapes.{Place, NamedExpr, NamedStmt, TypedStmt, with_name, with_params}
+use Rattle.type_check.specs.Shapes.{TypedStmt, with_name, with_params}
 use Rattle.type_check.specs.Outline.{NamedContract, TypedFunction, TypedContract, function_of, contract_of}
 use Rattle.type_check.specs.Typing as rule
-use Rattle.type_check.specs.Typing.{HasType, TypesRun, TypesFunction, TypesFunctions, TypesContract}
+use Rattle.type_check.specs.Typing.{TypesRun, TypesFunction, TypesFunctions, TypesContract}
 use Rattle.source_meaning.specs.declared.outcome.Failure.{Failure}
-use Rattle.source_meaning.specs.declared.outcome.SourceOutcome.{SourceOutcome}
 use Rattle.source_meaning.specs.declared.outcome.SourceOutcome.TheVariants.{Failed}
-use Rattle.source_meaning.specs.Meaning.{Env, Given, Value, left_of, right_of, no_values, with_value, with_values, value_of, in_turn, env_after, ended, source_outcome}
+use Rattle.source_meaning.specs.Meaning.{Env, Given, Value, left_of, right_of, no_values, with_value, with_values, value_of, in_turn, env_after, ended}
 use Rattle.source_meaning.specs.Fits.{LayerFits, LayerGivenFits}
-use Rattle.type_soundness.specs.Literals.{holds_bytes}
-use Rattle.type_soundness.specs.Sound.{IsValue, NamesFit, ValueFits, ExpressionsFit, AreSingle, IsPlain, AreValues, RunsFindNumbers}
+use Rattle.type_soundness.specs.Literals.{AreSingle, IsPlain}
+use Rattle.type_soundness.specs.Sound.{IsValue, ValueFits, ExpressionsFit, AreValues, RunsFindNumbers}
 use Rattle.type_soundness.proofs.Calm.{is_no_number}
-use Rattle.type_soundness.proofs.Holds.{Laws, TyLayer, is_loose, LayerHolds, Holds, HoldsGiven, Good, GoodValue}
+use Rattle.type_soundness.proofs.Holds.{Laws, TyLayer, is_loose, LayerHolds, Holds, Good, GoodValue}
 use Rattle.type_soundness.proofs.Types.{out_int}
-use Rattle.type_soundness.proofs.Calls.{Sound}
 use Rattle.type_soundness.proofs.Expressions.{expression_sound}
-use Rattle.type_soundness.proofs.Scopes.{Scope, Grows, own_type, declares, Agrees, set_value, widened, nothing_holds}
+use Rattle.type_soundness.proofs.Scopes.{Scope, Grows, own_type, declares, Agrees, nothing_holds}
 use Rattle.type_soundness.proofs.Parts.{apart}
-use Rattle.type_soundness.proofs.Statements.{Setting, AllBytes, Runs, defined, all_runs}
+use Rattle.type_soundness.proofs.Statements.{Setting, AllBytes, defined, all_runs}
 
 -- ---- expressions
 
@@ -95,12 +92,12 @@ expressions_fit laws world w types values names place e x typed bytes =
 
 -- ---- parameters
 
-record Given-params (names : Names) (types : Types) (later : Names) (after : Types) (give : Env → Env) : Type 0 where
+record ParamsGiven (names : Names) (types : Types) (later : Names) (after : Types) (give : Env → Env) : Type 0 where
   grows : Grows names.next types later after
   agrees : (values : Env) → Agrees names.next types values → Agrees later.next after (give values)
 
 params_given : (source : List ℕ) (names later : Names) (ps : List (Param Span)) (qs : List (Param Slot)) (types : Types) (es : List (List ℕ)) → NamesParams source names ps qs later
-    → Scope names types → AreSingle qs → AreValues qs es → Given-params names types later (with_params qs types) (with_values qs es)
+    → Scope names types → AreSingle qs → AreValues qs es → ParamsGiven names types later (with_params qs types) (with_values qs es)
 params_given source _ _ _ _ types [] (scopes.no_param names) scope single values =
     record { grows = record { more = omega arith; kept = λ at less. refl; scope = scope }; agrees = λ values h. h }
 params_given source _ _ _ _ types (e ∷ es) (scopes.no_param names) scope single values = elim values [ ]

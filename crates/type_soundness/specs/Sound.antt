@@ -1,6 +1,5 @@
 -- What the types of a contract promise of a run.
 use Rattle.std.specs.Prelude.{◌≡◌, ◌≢◌, ℕ, List, [], ◌∷◌, slice_get, Some, Ok, Err, unwrap_or, IsTrue}
-use Rattle.std.specs.List.{AllByRecursion}
 use Rattle.cash_base.specs.declared.fault.Cause.TheVariants.{NotANumber}
 use Rattle.cash_base.specs.declared.place.Span.{Span}
 use Rattle.cash_base.specs.declared.place.Slot.{Slot}
@@ -17,7 +16,7 @@ use Rattle.type_check.specs.Typing.{HasType, TypesContract}
 use Rattle.source_meaning.specs.declared.outcome.SourceOutcome.TheVariants.{Failed}
 use Rattle.source_meaning.specs.Meaning.{Env, Value, value_of, source_outcome}
 use Rattle.source_meaning.specs.Fits.{Fits, GivenFits}
-use Rattle.type_soundness.specs.Literals.{holds_bytes, HoldsBytes}
+use Rattle.type_soundness.specs.Literals.{holds_bytes, IsPlain}
 
 -- an element that is a value of this type
 pub record IsValue (t : Ty) (e : List ℕ) : Type 0 where
@@ -44,17 +43,6 @@ ExpressionsFit =
 
 -- ---- runs
 
--- a parameter has the type of one element: neither an array nor a pair
-abbrev pub AreSingle : List (Param Slot) → Type 0
-AreSingle params = AllByRecursion (λ p. IsTrue (is_single p.ty)) params
-
--- What holds of each contract that a source spells: its parameters have the types of elements, since no word names another
--- type, and its literals hold bytes.
-pub record IsPlain (contract : TypedContract) : Type 0 where
-  pub ctor : AreSingle contract.params
-  pub args : AllByRecursion (λ f. AreSingle f.params) contract.functions
-  pub literals : HoldsBytes contract
-
 -- as many elements as parameters, each a value of its parameter's type
 abbrev pub AreValues : List (Param Slot) → List (List ℕ) → Type 0
 AreValues [] [] = Unit {0}
@@ -62,12 +50,15 @@ AreValues (param ∷ params) (e ∷ elements) = IsValue param.ty e × AreValues 
 AreValues _ _ = ⊥
 
 -- A run of a function on values of its parameters' types fails at no place since an operand is no number.
-abbrev pub RunsFindNumbers : Type 0
-RunsFindNumbers =
-    (source : List ℕ) (tree : Tree) (named : NamedTree) (typed : TypedContract)
-    → IsNamed source tree named → TypesContract named typed → IsPlain typed
-    → (world : World) → IsWorld world
+abbrev pub FindsNumbers : TypedContract → Type 0
+FindsNumbers typed =
+    (world : World) → IsWorld world
     → (ctor : List (List ℕ)) → AreValues typed.params ctor
     → (place : ℕ) (f : TypedFunction) → slice_get typed.functions place ≡ Some f
     → (args : List (List ℕ)) → AreValues f.params args
     → (span : Span) → source_outcome typed ctor f args world ≢ Failed span NotANumber
+
+abbrev pub RunsFindNumbers : Type 0
+RunsFindNumbers =
+    (source : List ℕ) (tree : Tree) (named : NamedTree) (typed : TypedContract)
+    → IsNamed source tree named → TypesContract named typed → IsPlain typed → FindsNumbers typed

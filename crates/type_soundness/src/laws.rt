@@ -1,5 +1,6 @@
 //! Laws of types.
 
+ghost use Rattle.type_soundness.specs.Plain.{ContractsStayPlain};
 ghost use Rattle.type_soundness.specs.Room.{ContractsHaveRoom};
 ghost use Rattle.type_soundness.specs.Sound.{ExpressionsFit, RunsFindNumbers};
 
@@ -26,4 +27,10 @@ pub fn types_are_sound()
 /// expression.
 pub fn contracts_have_room()
     ensures { ContractsHaveRoom }
+{}
+
+/// Names and types leave the literals of a tree and the types of its parameters: where those of the parsed tree are plain, so are
+/// those of the contract.
+pub fn contracts_stay_plain()
+    ensures { ContractsStayPlain }
 {}

@@ -3,4 +3,4 @@
 
 pub mod laws;
 
-pub use laws::{contracts_have_room, types_are_sound};
+pub use laws::{contracts_have_room, contracts_stay_plain, types_are_sound};

@@ -1,7 +1,7 @@
 use Rattle.std.proofs.Common.{◌≡◌, map, drop, true}
-use Rattle.source_meaning.specs.Meaning.{with_values}
+use Rattle.meaning_room.specs.Meaning.{with_values}
 use Rattle.source_meaning.specs.Runnable.{params_have_room}
-use Rattle.source_meaning.specs.Names.{env_of}
+use Rattle.meaning_room.specs.Names.{env_of}
 use Rattle.source_meaning.proofs.room.give_all.Given as goal
 
 -- what is left, given from here on, gives what the whole does; and it has places

@@ -1,4 +1,3 @@
-use Rattle.type_soundness.proofs.Holds.{Laws}
 use Rattle.type_soundness.proofs.Whole.{expressions_fit, runs_find_numbers}
 use Rattle.type_soundness.proofs.laws.types_are_sound.Goals as goal
 

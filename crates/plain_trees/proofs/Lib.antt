@@ -1,0 +1,3 @@
+pub mod Symbols
+pub mod Spelled
+pub mod Trees

@@ -1,6 +1,0 @@
-use Rattle.std.proofs.Common.{map}
-use Rattle.source_meaning.proofs.Places.{none_known}
-use Rattle.source_meaning.proofs.names.Names.new.Goals as goal
-
-pub returns : goal.returns
-returns c = none_known 160 (map (λ e. e.items) c.loop.elements.items)
