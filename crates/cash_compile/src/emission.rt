@@ -165,7 +165,7 @@ impl Emitter {
 /// Each operand is pushed or copied, the comparison is left as the only element. A row's `checking` is the span of the
 /// statement, and its `doing` that of the operand or comparison; what drops a parameter has the statement's as both. The
 /// contract has no parameters of its own and one function, of at most 16 parameters in the slots from 0, whose one statement
-/// requires that two ints are equal, each a parameter or a literal. The only error is that memory ran out.
+/// requires that two ints are equal, each a parameter or a number of at most 16. The only error is that memory ran out.
 #[tactic(auto, using(crate::proofs::Decided::decided))]
 pub fn emit(alloc: Global, contract: &TypedContract) -> Result<Vec<Spanned>, AllocError>
     requires { IsEmittable contract.now }
