@@ -8,17 +8,27 @@
 //!   == b); } }` by the code `NUMEQUAL`, or by `none`, with its places, `placed`, or without, `unplaced`.
 //! - `report accepted` and `report SCRIPT CAUSE INDEX FROM TO`: a report on such a verdict, at the place from byte FROM to TO
 //!   of a text of 50 blanks, ten empty lines and five blanks, or at none where FROM is `-`.
+//! - `elements TYPE FILE`: the elements of the values of a spend file's constructor as parameters of the type, each with a comma
+//!   after it.
+//! - `file ARTIFACT FILE`, with a tab between the files: the report on the spend that a spend file asks for, of the program of an
+//!   artifact.
+//! - `trace ARTIFACT FILE`: the same, and before it a line `SCRIPT INDEX OPCODE PLACE HEIGHT` for each instruction that is executed;
+//!   the place as FROM-TO in bytes of the source, or `-`.
 //!
 //! Bytes stand in hexadecimal, and `-` is none. Elements stand with commas between them, and `none` is no element. Where no
 //! spend is made, the answer is the line that says why.
 #![tactic(auto)]
 
 mod contracts;
+mod elements;
+mod files;
 mod reports;
 mod scripts;
 mod text;
 
 use anyhow::{Result, bail};
+use elements::elements;
+use files::{judged, traced};
 use reports::{arguments, report, spend};
 use scripts::scripts;
 use std::alloc::Global;
@@ -32,6 +42,9 @@ fn answer(alloc: Global, line: &str) -> Result<String> {
         "arguments" => arguments(alloc, rest),
         "spend" => spend(alloc, rest),
         "report" => report(alloc, rest),
+        "elements" => elements(alloc, rest),
+        "file" => judged(alloc, rest),
+        "trace" => traced(alloc, rest),
         _ => bail!("{case} is no case"),
     }
 }

@@ -62,7 +62,8 @@ fn spend_of(alloc: Global, chosen: &str, ctor: &str, args: &str) -> Result<Spend
     })
 }
 
-fn told(alloc: Global, source: &str, report: &Report) -> Result<String> {
+/// The text of a report.
+pub fn told(alloc: Global, source: &str, report: &Report) -> Result<String> {
     if source.len() > 1_000_000 {
         bail!("the source is too long");
     }

@@ -140,7 +140,13 @@ line_stop lines.Memory = None
 abbrev pub build_stop : BuildFault → Option InputStop
 build_stop (builds.WrongCount wanted found) = Some (stops.WrongCount wanted found)
 build_stop builds.NoSuchFunction = Some stops.NoSuchFunction
+build_stop builds.WrongValue = Some stops.WrongValue
+build_stop (builds.WrongLength wanted found) = Some (stops.WrongLength wanted found)
+build_stop builds.IntRange = Some stops.IntRange
+build_stop (builds.TooLong bytes) = Some (stops.TooLong bytes)
 build_stop (builds.RedeemTooLong bytes) = Some (stops.RedeemTooLong bytes)
+build_stop (builds.UnlockTooLong bytes) = Some (stops.UnlockTooLong bytes)
+build_stop builds.PushesGiven = Some stops.PushesGiven
 build_stop builds.Memory = None
 
 abbrev pub input_line : InputStop → List ℕ
@@ -150,4 +156,11 @@ input_line stops.TooMany = codes "input TooMany arguments\n"
 input_line (stops.WrongCount wanted found) =
     codes "input WrongCount " ++ decimal wanted ++ codes " " ++ decimal found ++ codes "\n"
 input_line stops.NoSuchFunction = codes "input NoSuchFunction\n"
+input_line stops.WrongValue = codes "input WrongValue\n"
+input_line (stops.WrongLength wanted found) =
+    codes "input WrongLength " ++ decimal wanted ++ codes " " ++ decimal found ++ codes "\n"
+input_line stops.IntRange = codes "input IntRange\n"
+input_line (stops.TooLong bytes) = codes "input TooLong " ++ decimal bytes ++ codes "\n"
+input_line (stops.UnlockTooLong bytes) = codes "input UnlockTooLong " ++ decimal bytes ++ codes "\n"
+input_line stops.PushesGiven = codes "input PushesGiven\n"
 input_line (stops.RedeemTooLong bytes) = codes "input RedeemTooLong " ++ decimal bytes ++ codes "\n"

@@ -53,13 +53,36 @@ pub enum InputStop {
         /// How many elements are given.
         found: u32,
     },
-    /// The contract has no function of this index.
+    /// The contract has no such function.
     NoSuchFunction,
+    /// A value is none of its parameter's type.
+    WrongValue,
+    /// A `bytesN` has other than N bytes.
+    WrongLength {
+        /// How many are wanted.
+        wanted: u32,
+        /// How many are given.
+        found: u32,
+    },
+    /// A number is too small for an int.
+    IntRange,
+    /// A value has more than 520 bytes.
+    TooLong {
+        /// How many it has.
+        bytes: u32,
+    },
     /// The redeem script has more than 520 bytes.
     RedeemTooLong {
         /// How many it has.
         bytes: u32,
     },
+    /// The unlocking script has more than 10,000 bytes.
+    UnlockTooLong {
+        /// How many it has.
+        bytes: u32,
+    },
+    /// There are pushes where a call is wanted.
+    PushesGiven,
 }
 
 /// What is told of a fault of a file of arguments, or `None` where memory ran out.
@@ -81,7 +104,13 @@ pub fn build_stop(fault: BuildFault) -> Option<InputStop>
     match fault {
         BuildFault::WrongCount { wanted, found } => Some(InputStop::WrongCount { wanted, found }),
         BuildFault::NoSuchFunction => Some(InputStop::NoSuchFunction),
+        BuildFault::WrongValue => Some(InputStop::WrongValue),
+        BuildFault::WrongLength { wanted, found } => Some(InputStop::WrongLength { wanted, found }),
+        BuildFault::IntRange => Some(InputStop::IntRange),
+        BuildFault::TooLong { bytes } => Some(InputStop::TooLong { bytes }),
         BuildFault::RedeemTooLong { bytes } => Some(InputStop::RedeemTooLong { bytes }),
+        BuildFault::UnlockTooLong { bytes } => Some(InputStop::UnlockTooLong { bytes }),
+        BuildFault::PushesGiven => Some(InputStop::PushesGiven),
         BuildFault::Memory => None,
     }
 }
@@ -125,20 +154,44 @@ pub fn input_text(alloc: Global, stop: InputStop) -> Result<Vec<u8>, Memory>
         InputStop::Range => text.extend_from_slice(b"input Range arguments\n")?,
         InputStop::TooMany => text.extend_from_slice(b"input TooMany arguments\n")?,
         InputStop::NoSuchFunction => text.extend_from_slice(b"input NoSuchFunction\n")?,
+        InputStop::WrongValue => text.extend_from_slice(b"input WrongValue\n")?,
+        InputStop::IntRange => text.extend_from_slice(b"input IntRange\n")?,
+        InputStop::PushesGiven => text.extend_from_slice(b"input PushesGiven\n")?,
+        InputStop::TooLong { bytes } => add_one(alloc, &mut text, "input TooLong ", bytes)?,
         InputStop::RedeemTooLong { bytes } => {
-            text.extend_from_slice(b"input RedeemTooLong ")?;
-            add_number(alloc, &mut text, bytes)?;
-            text.extend_from_slice(b"\n")?;
+            add_one(alloc, &mut text, "input RedeemTooLong ", bytes)?
+        }
+        InputStop::UnlockTooLong { bytes } => {
+            add_one(alloc, &mut text, "input UnlockTooLong ", bytes)?
         }
         InputStop::WrongCount { wanted, found } => {
-            text.extend_from_slice(b"input WrongCount ")?;
-            add_number(alloc, &mut text, wanted)?;
-            text.extend_from_slice(b" ")?;
-            add_number(alloc, &mut text, found)?;
-            text.extend_from_slice(b"\n")?;
+            add_two(alloc, &mut text, "input WrongCount ", wanted, found)?
+        }
+        InputStop::WrongLength { wanted, found } => {
+            add_two(alloc, &mut text, "input WrongLength ", wanted, found)?
         }
     }
     Ok(text)
+}
+
+/// Adds a line that ends with a number.
+fn add_one(alloc: Global, text: &mut Vec<u8>, front: &str, n: u32) -> Result<(), AllocError>
+    ensures { OnOk result (text.new.items ≡ text.old.items ++ front.now ++ decimal n ++ codes "\n") }
+{
+    text.extend_from_slice(front.as_bytes())?;
+    add_number(alloc, text, n)?;
+    text.extend_from_slice(b"\n")?;
+    Ok(())
+}
+
+/// Adds a line that ends with two numbers.
+fn add_two(alloc: Global, text: &mut Vec<u8>, front: &str, m: u32, n: u32) -> Result<(), AllocError>
+    ensures { OnOk result (text.new.items ≡ text.old.items ++ front.now ++ decimal m ++ codes " " ++ decimal n ++ codes "\n") }
+{
+    text.extend_from_slice(front.as_bytes())?;
+    add_number(alloc, text, m)?;
+    add_one(alloc, text, " ", n)?;
+    Ok(())
 }
 
 /// Adds the line of a script.

@@ -193,8 +193,13 @@ fn judge(
     })
 }
 
-/// The place of a refusal in the redeem script, after so many pushes of the constructor, where the rows are known.
-fn known_place(spans: &Option<Vec<SpanRow>>, before: usize, outcome: MachineOutcome) -> Option<Span>
+/// The place of a refusal in the redeem script, after so many pushes of the constructor, where the rows are known. It takes no
+/// memory.
+pub fn known_place(
+    spans: &Option<Vec<SpanRow>>,
+    before: usize,
+    outcome: MachineOutcome,
+) -> Option<Span>
     ensures { result ≡ SpendDebug.known_place (option_map (λ rows. rows.items) spans.now) before outcome }
 {
     let Some(rows) = spans else {

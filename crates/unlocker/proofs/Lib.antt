@@ -1,2 +1,5 @@
+pub mod Fitting
+pub mod Limits
 pub mod Pushed
 pub mod Sizes
+pub mod Spent

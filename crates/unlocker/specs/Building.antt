@@ -2,9 +2,9 @@
 use Rattle.std.specs.Prelude.{ℕ, ◌==◌, nat_le, if◌then◌else◌, List, length, Option, Some, None, slice_get, Result, Ok, Err}
 use Rattle.cash_base.specs.Failing.{◌>>=◌}
 use Rattle.unlocker.specs.declared.BuildFault.{BuildFault}
-use Rattle.unlocker.specs.declared.BuildFault.TheVariants.{WrongCount, NoSuchFunction, RedeemTooLong}
+use Rattle.unlocker.specs.declared.BuildFault.TheVariants.{WrongCount, NoSuchFunction, RedeemTooLong, UnlockTooLong}
 use Rattle.artifact_json.specs.Artifact.{Artifact, AbiCall}
-use Rattle.unlocker.specs.Scripts.{redeem_script, spending_script}
+use Rattle.unlocker.specs.Scripts.{redeem_script, spending_script, pushing_script}
 
 -- a number, or the greatest of 32 bits where it is above that
 abbrev pub capped : ℕ → ℕ
@@ -34,3 +34,11 @@ built_unlocking program chosen args redeem = do
   function ← chosen_function (slice_get program.abi chosen)
   counted ← count_check (length function.inputs) (length args)
   Ok (spending_script (length program.abi) chosen args redeem)
+
+-- a script has at most 10,000 bytes
+abbrev pub script_check : List ℕ → Result (List ℕ) BuildFault
+script_check script = if nat_le (length script) 10000 then Ok script else Err (UnlockTooLong (capped (length script)))
+
+-- the unlocking script that pushes these elements in place of a call
+abbrev pub built_pushes : List (List ℕ) → List ℕ → Result (List ℕ) BuildFault
+built_pushes elements redeem = script_check (pushing_script elements redeem)

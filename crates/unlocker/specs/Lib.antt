@@ -1,2 +1,5 @@
 pub mod Building
+pub mod Handing
 pub mod Scripts
+pub mod Spends
+pub mod Values

@@ -1,5 +1,5 @@
 -- The scripts of a spend of a contract's code.
-use Rattle.std.specs.Prelude.{ℕ, nat_lt, if◌then◌else◌, List, ◌∷◌, ◌++◌, map, reverse, pos}
+use Rattle.std.specs.Prelude.{ℕ, nat_lt, if◌then◌else◌, List, [], ◌∷◌, ◌++◌, map, reverse, pos}
 use Rattle.cash_base.specs.Number.{minimal_bytes}
 use Rattle.script_codec.specs.declared.instr.Instr.{Instr}
 use Rattle.script_codec.specs.Reading.{push}
@@ -21,3 +21,7 @@ handed_in functions chosen args = if nat_lt functions 2 then args else minimal_b
 -- the minimal pushes of what is handed in, and then of the redeem script
 abbrev pub spending_script : ℕ → ℕ → List (List ℕ) → List ℕ → List ℕ
 spending_script functions chosen args redeem = unlocking_script (handed_in functions chosen args) redeem
+
+-- the minimal pushes of these elements, in order, and then of the redeem script
+abbrev pub pushing_script : List (List ℕ) → List ℕ → List ℕ
+pushing_script elements redeem = spellings (map push elements ++ push redeem ∷ [])

@@ -1,0 +1,12 @@
+pub mod Induction
+pub mod Layers
+pub mod Singles
+pub mod Facts
+pub mod Calls
+pub mod Values
+pub mod Readied
+pub mod Known
+pub mod Own
+pub mod Statements
+pub mod Ending
+pub mod Whole

@@ -1,0 +1,12 @@
+pub mod Puts
+pub mod Standing
+pub mod RoomSteps
+pub mod Lights
+pub mod Single
+pub mod Acts
+pub mod ReadySteps
+pub mod Readies
+pub mod Lowered
+pub mod Pushed
+pub mod Chunks
+pub mod Arrays

@@ -1,0 +1,4 @@
+pub mod Room
+pub mod Ready
+pub mod Pieces
+pub mod Rows

@@ -1,0 +1,103 @@
+//! Spends that spend files ask for, of programs that artifacts keep.
+
+ghost use Rattle.std.specs.Prelude.{IfOk};
+ghost use Rattle.artifact_json.specs.Artifact.{HasFewInputs};
+
+use crate::reports::told;
+use crate::text::stop_text;
+use anyhow::{Context, Result, bail};
+use artifact_json::Program;
+use bch_vm::{Machine, Which};
+use spend_debug::{SpendStop, build_stop};
+use spend_json::SpendFile;
+use spend_trace::{TraceRow, debug, trace};
+use std::alloc::Global;
+
+/// The program of an artifact.
+fn program_of(alloc: Global, artifact: &str) -> Result<Program>
+    ensures { IfOk result HasFewInputs }
+{
+    let Ok(program) = artifact_json::read(alloc, artifact.as_bytes()) else {
+        bail!("no artifact");
+    };
+    Ok(program)
+}
+
+/// What a spend file asks for.
+fn spend_of(alloc: Global, file: &str) -> Result<SpendFile> {
+    let Ok(spend) = spend_json::read(alloc, file.as_bytes()) else {
+        bail!("no spend file");
+    };
+    Ok(spend)
+}
+
+fn files(case: &str) -> Result<(&str, &str)> {
+    case.split_once('\t')
+        .context("a tab stands between two files")
+}
+
+fn machine(alloc: Global) -> Result<Machine> {
+    let Ok(machine) = Machine::new(alloc) else {
+        bail!("out of memory");
+    };
+    Ok(machine)
+}
+
+fn stopped(alloc: Global, stop: SpendStop) -> Result<String> {
+    match stop {
+        SpendStop::Build(fault) => stop_text(alloc, build_stop(fault)),
+        SpendStop::Memory => bail!("out of memory"),
+    }
+}
+
+/// The report on a spend.
+pub fn judged(alloc: Global, case: &str) -> Result<String> {
+    let (artifact, file) = files(case)?;
+    let program = program_of(alloc, artifact)?;
+    let spend = spend_of(alloc, file)?;
+    let mut machine = machine(alloc)?;
+    match debug(alloc, &program, &spend, &mut machine) {
+        Ok(report) => told(alloc, program.source.as_str(), &report),
+        Err(stop) => stopped(alloc, stop),
+    }
+}
+
+fn script_name(script: Which) -> &'static str {
+    match script {
+        Which::Unlocking => "unlocking",
+        Which::Locking => "locking",
+        Which::Redeem => "redeem",
+    }
+}
+
+/// `SCRIPT INDEX OPCODE PLACE HEIGHT`
+fn add_row(alloc: Global, text: &mut String, row: &TraceRow) -> Result<()> {
+    let (script, at, opcode, height) = (script_name(row.script), row.at, row.opcode, row.height);
+    let place = match row.place {
+        None => String::from_str(alloc, "-")?,
+        Some(span) => {
+            let (from, to) = (span.from, span.to);
+            format!(in alloc; "{from}-{to}")?
+        }
+    };
+    text.push_str(format!(in alloc; "{script} {at} {opcode} {place} {height}\n")?.as_str())?;
+    Ok(())
+}
+
+/// The instructions that a spend executes, and the report on it.
+pub fn traced(alloc: Global, case: &str) -> Result<String> {
+    let (artifact, file) = files(case)?;
+    let program = program_of(alloc, artifact)?;
+    let spend = spend_of(alloc, file)?;
+    let mut machine = machine(alloc)?;
+    let (rows, report) = match trace(alloc, &program, &spend, &mut machine) {
+        Ok(traced) => traced,
+        Err(stop) => return stopped(alloc, stop),
+    };
+    let mut text = String::new(alloc);
+    for row in &rows {
+        add_row(alloc, &mut text, row)?;
+    }
+    text.push_str(told(alloc, program.source.as_str(), &report)?.as_str())?;
+    Ok(text)
+}

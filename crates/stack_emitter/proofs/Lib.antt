@@ -1,0 +1,10 @@
+pub mod Lists
+pub mod Quiet
+pub mod Steps
+pub mod Works
+pub mod Moves
+pub mod Sizes
+pub mod Emits
+pub mod Tails
+pub mod Reached
+pub mod Choose

@@ -1,0 +1,4 @@
+pub mod Plans
+pub mod Prefix
+pub mod Chunks
+pub mod Many
