@@ -1,0 +1,6 @@
+pub mod Spends
+pub mod Alike
+pub mod Chosen
+pub mod Left
+pub mod Whole
+pub mod Described
