@@ -4,12 +4,16 @@ ghost use Rattle.std.specs.Prelude.{IfOk};
 ghost use Rattle.artifact_json.specs.Artifact.{HasFewInputs};
 
 use crate::reports::told;
+use crate::sources::{LONGEST, contract_of};
 use crate::text::stop_text;
-use anyhow::{Context, Result, bail};
+use anyhow::{Context, Result, bail, ensure};
 use artifact_json::Program;
 use bch_vm::{Machine, Which};
+use source_meaning::{SourceOutcome, SourceRoom};
+use span_map::line_col;
 use spend_debug::{SpendStop, build_stop};
 use spend_json::SpendFile;
+use spend_meaning::{has_parameters_of, meaning};
 use spend_trace::{TraceRow, debug, trace};
 use std::alloc::Global;
 
@@ -100,4 +104,36 @@ pub fn traced(alloc: Global, case: &str) -> Result<String> {
     }
     text.push_str(told(alloc, program.source.as_str(), &report)?.as_str())?;
     Ok(text)
+}
+
+/// How the run of the source ends that an artifact has.
+pub fn meant(alloc: Global, case: &str) -> Result<String> {
+    let (artifact, file) = files(case)?;
+    let program = program_of(alloc, artifact)?;
+    let spend = spend_of(alloc, file)?;
+    let source = program.source.as_str();
+    ensure!(source.len() <= LONGEST, "the source is too long");
+    let contract = contract_of(alloc, source)?;
+    ensure!(
+        has_parameters_of(&program, &contract),
+        "the program is none of the source"
+    );
+    let Ok(mut room) = SourceRoom::new(alloc) else {
+        bail!("out of memory");
+    };
+    match meaning(alloc, &program, &contract, &spend, &mut room) {
+        Ok(meant) => ending(alloc, source, meant.outcome),
+        Err(stop) => stopped(alloc, stop),
+    }
+}
+
+fn ending(alloc: Global, source: &str, outcome: SourceOutcome) -> Result<String> {
+    ensure!(source.len() <= LONGEST, "the source is too long");
+    match outcome {
+        SourceOutcome::Met => Ok(String::from_str(alloc, "met\n")?),
+        SourceOutcome::Failed { span, cause } => {
+            let (line, column) = line_col(source, span.from);
+            Ok(format!(in alloc; "failed {line}:{column} {cause:?}\n")?)
+        }
+    }
 }
