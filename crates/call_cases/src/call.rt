@@ -19,6 +19,7 @@ pub struct Call {
     pub files: Vec<(String, Vec<u8>)>,
     pub failing: Failing,
     pub sure: bool,
+    pub brief: bool,
 }
 
 impl Call {
@@ -34,6 +35,7 @@ impl Call {
             files: Vec::new(alloc),
             failing,
             sure: false,
+            brief: false,
         }
     }
 }
@@ -91,6 +93,7 @@ fn read_part<'a>(alloc: Global, cases: &'a [u8], call: &mut Call) -> Result<(boo
         "call" => add_words(alloc, &mut call.words, tail)?,
         "failing" => add_failing(&mut call.failing, tail)?,
         "sure" => call.sure = true,
+        "brief" => call.brief = true,
         "file" => return Ok((true, add_file(alloc, &mut call.files, tail, after)?)),
         "end" => return Ok((false, after)),
         _ => bail!("{kind} is no line of a call"),

@@ -2,11 +2,12 @@
 //!
 //! A case is a line `call WORD ..` and then, in any order, its files, each a line `file NAME LENGTH`, so many bytes and a line
 //! feed; lines `failing store NUMBER ..`, `failing out NUMBER ..` and `failing err NUMBER ..`, with the numbers of the calls
-//! that fail, counted from 0; and a line `sure`, by which the store and the sinks are those that never fail and show nothing.
-//! A line `end` ends it.
+//! that fail, counted from 0; a line `sure`, by which the store and the sinks are those that never fail and show nothing; and a
+//! line `brief`. A line `end` ends it.
 //!
 //! After the status stand `out` and what was written there, and `err` and what was written there, each only where something
-//! was. A line feed is printed as `~`, and what hangs on the emitted code as `..`.
+//! was. A line feed is printed as `~`, and what hangs on the emitted code as `..`. Of a `brief` call only the last line of what is
+//! written stands there, exactly, and behind one of `out` the first 16 hexadecimal digits of the SHA-256 of all that was written.
 #![tactic(auto)]
 
 mod call;
@@ -36,6 +37,7 @@ fn answer(alloc: Global, call: Call) -> Result<String> {
         files,
         failing,
         sure: _,
+        brief,
     } = call;
     let Failing { store, out, err } = failing;
     let mut store = MemoryStore::new(files, store);
@@ -43,8 +45,14 @@ fn answer(alloc: Global, call: Call) -> Result<String> {
     let mut err = MemorySink::new(alloc, err).ok().context("memory")?;
     let status = cashc(alloc, words.as_slice(), &mut store, &mut out, &mut err);
     let mut text = format!(in alloc; "{status}")?;
-    shown::show_written(&mut text, "out", out.bytes())?;
-    shown::show_written(&mut text, "err", err.bytes())?;
+    if brief {
+        shown::show_last(&mut text, out.bytes())?;
+        shown::show_digest(alloc, &mut text, out.bytes())?;
+        shown::show_last(&mut text, err.bytes())?;
+    } else {
+        shown::show_written(&mut text, "out", out.bytes())?;
+        shown::show_written(&mut text, "err", err.bytes())?;
+    }
     Ok(text)
 }
 

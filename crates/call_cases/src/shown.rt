@@ -1,7 +1,8 @@
 //! What is printed of what a call writes.
 
-use anyhow::Result;
-use std::alloc::AllocError;
+use anyhow::{Context, Result};
+use sha2::{Digest, Sha256};
+use std::alloc::{AllocError, Global};
 
 /// Whether a word is bytes in hexadecimal.
 fn is_hex(word: &str) -> bool {
@@ -73,5 +74,25 @@ pub fn show_written(text: &mut String, name: &str, written: &[u8]) -> Result<()>
             None => show_line(text, line, redeem)?,
         }
     }
+    Ok(())
+}
+
+/// Prints the last line of what was written to a sink, where anything was.
+pub fn show_last(text: &mut String, written: &[u8]) -> Result<()> {
+    let written = str::from_utf8(written)?;
+    if let Some(line) = written.lines().last() {
+        write!(text, " {line}")?;
+    }
+    Ok(())
+}
+
+/// Prints the first 16 hexadecimal digits of the SHA-256 of what was written to a sink, where anything was.
+pub fn show_digest(alloc: Global, text: &mut String, written: &[u8]) -> Result<()> {
+    if written.is_empty() {
+        return Ok(());
+    }
+    let digest = hex::encode(alloc, &Sha256::digest(written))?;
+    let front = digest.get(..16).context("16 digits")?;
+    write!(text, " {front}")?;
     Ok(())
 }

@@ -5,7 +5,12 @@ use Rattle.std.specs.declared.string.String.{String}
 use Rattle.cash_base.specs.Outside.{Files}
 use Rattle.cash_compile.specs.declared.compile.Compiled.{Compiled}
 use Rattle.cash_compile.specs.Compile.{IsCompiled}
-use Rattle.cashc.specs.TopCall.{Command, command_of, usage, IsFile, IsJudged, IsReport, IsToldFor, IsTold, HasReadCauseFor, HasReadCause}
+use Rattle.command_files.specs.Files.{IsFile}
+use Rattle.command_files.specs.declared.Stop.{Stop}
+use Rattle.command_files.specs.declared.Stop.TheVariants.{Refused, Unread, Memory}
+use Rattle.spend_command.specs.Spent.{HasSpendCause}
+use Rattle.cashc.specs.TopCall.{Command, spend_by, command_of, usage, IsJudged, IsReport, IsToldFor, IsTold, HasReadCauseFor, HasReadCause}
+use Rattle.cashc.specs.Answering.{HasCause}
 
 -- a source and a file of arguments that were read, and what their spend comes to
 pub report_shown : (files then_ : Option Files) (name spend_name bytes source again spend_bytes spend : List ℕ) (compiled : Compiled) (status : ℕ) (text : List ℕ)
@@ -35,3 +40,10 @@ told_for files words command status text said named is told =
 pub unread_for : (files : Option Files) (words : List (String Global)) (command : Command) (before now : ℕ)
     → command_of words ≡ Some command → HasReadCauseFor files (Some command) before now → HasReadCause files words before now
 unread_for files words command before now named cause = subst (λ (o : Option Command). HasReadCauseFor files o before now) (sym named) cause
+
+-- nothing is shown of a spend of an artifact
+pub spend_stopped : (files : Option Files) (artifact spend : List ℕ) (before now : ℕ) (stop : Stop)
+    → HasSpendCause files artifact spend before now stop → HasCause files (spend_by artifact spend) before now stop
+spend_stopped files artifact spend before now (Refused status text) cause = cause
+spend_stopped files artifact spend before now Unread cause = cause
+spend_stopped files artifact spend before now Memory cause = tt

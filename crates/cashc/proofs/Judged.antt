@@ -44,10 +44,11 @@ use Rattle.cash_compile.specs.Form.{HasOneFunction}
 use Rattle.cash_compile.specs.Describes.{described_function}
 use Rattle.cash_compile.specs.Compile.{IsCompiled}
 use Rattle.cash_compile.specs.Correct.{Admits, IsSameCause, Agrees, spending_world, IsCorrect}
-use Rattle.cashc.specs.declared.commands.Stop.{Stop}
-use Rattle.cashc.specs.declared.commands.Stop.TheVariants as stopped
+use Rattle.command_files.specs.declared.Stop.{Stop}
+use Rattle.command_files.specs.declared.Stop.TheVariants as stopped
 use Rattle.cashc.specs.TopCall.{plain_spend, IsVerdict, IsJudged, IsCountStop}
-use Rattle.cashc.specs.Answering.{HasInputCause, HasScriptsCause, HasSpendCause, outcome_status, report_status}
+use Rattle.spend_command.specs.Spent.{outcome_status, report_status}
+use Rattle.cashc.specs.Answering.{HasInputCause, HasScriptsCause, HasArgumentsCause}
 
 -- ---- the program beside its contract
 
@@ -146,7 +147,7 @@ mapped P Q further stopped.Memory h = tt
 
 pub scripts_stopped : (source : List ℕ) (contract : Contract Slot Ty) (program : Artifact) (form : HasOneFunction contract) (h : IsCompiled source contract program) (few : HasFewInputs program)
     (spend : List ℕ) (args : List (List ℕ)) (stop : Stop) → spend_elements spend ≡ Ok args → length args ≤ 16 → HasScriptsCause program args stop
-    → HasSpendCause contract spend stop
+    → HasArgumentsCause contract spend stop
 scripts_stopped source contract program form h few spend args stop read some cause =
     mapped _ _ (λ s c. inr (args, read, miscounted source contract program form h few args c.0 s some c.1 c.2)) stop cause
 

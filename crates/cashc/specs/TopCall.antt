@@ -1,10 +1,12 @@
 -- What the program promises: what each command writes, status by status.
-use Rattle.std.specs.Prelude.{◌≡◌, ◌≢◌, ℕ, ◌<◌, ◌≤◌, ◌⊎◌, List, [], ◌∷◌, ◌++◌, length, codes, Option, Some, None, IfSome, IsSomeAnd, if◌then◌else◌, string_bytes, Ok, Err}
+use Rattle.std.specs.Prelude.{◌≡◌, ◌≢◌, ℕ, ◌≤◌, ◌⊎◌, List, [], ◌∷◌, ◌++◌, length, codes, Option, Some, None, if◌then◌else◌, string_bytes, Ok, Err}
 use Rattle.std.specs.Str.{bytes_eq}
 use Rattle.std.specs.Global.{Global}
 use Rattle.hex.specs.Hex.{encode_lower}
 use Rattle.std.specs.declared.string.String.{String}
-use Rattle.cash_base.specs.Outside.{Files, file_named, Rose, Grew, GrewByFront}
+use Rattle.cash_base.specs.Outside.{Files, Rose, Grew, GrewByFront}
+use Rattle.command_files.specs.Files.{IsFile, IsLonger, IsMissing}
+use Rattle.spend_command.specs.Spent.{IsSpent, IsSpendRefusal, LacksSpendFile, max_input_len, input_too_long}
 use Rattle.cash_base.specs.declared.place.Slot.{Slot}
 use Rattle.cash_tree.specs.declared.Ty.{Ty}
 use Rattle.cash_tree.specs.declared.Contract.{Contract}
@@ -42,40 +44,23 @@ usage = codes "usage: cashc compile FILE [--updated-at TEXT] | debug SOURCE SPEN
 pub data Command : Type 0 where
   compile_file : List ℕ → Command
   debug_files : List ℕ → List ℕ → Command
+  spend_by : List ℕ → List ℕ → Command
 
--- the command that the words are, if they are one: `compile FILE` or `debug SOURCE SPEND`
+-- the command that the words are, if they are one: `compile FILE`, `debug SOURCE SPEND` or `spend ARTIFACT SPEND`
 abbrev pub command_of : List (String Global) → Option Command
 command_of (command ∷ source ∷ []) =
     if bytes_eq (string_bytes command) (codes "compile") then Some (compile_file (string_bytes source)) else None
 command_of (command ∷ source ∷ spend ∷ []) =
-    if bytes_eq (string_bytes command) (codes "debug") then Some (debug_files (string_bytes source) (string_bytes spend)) else None
+    if bytes_eq (string_bytes command) (codes "debug") then Some (debug_files (string_bytes source) (string_bytes spend))
+    else (if bytes_eq (string_bytes command) (codes "spend") then Some (spend_by (string_bytes source) (string_bytes spend)) else None)
 command_of _ = None
 
--- the file of its source
-abbrev pub source_name : Command → List ℕ
-source_name (compile_file source) = source
-source_name (debug_files source spend) = source
-
--- ---- the files, where the store tells them
-
-abbrev pub IsFile : Option Files → List ℕ → List ℕ → Type 0
-IsFile files name bytes = IfSome files (λ fs. file_named name fs ≡ Some bytes)
-
--- it is longer than so many bytes
-abbrev pub IsLonger : Option Files → List ℕ → ℕ → Type 0
-IsLonger files name limit = IfSome files (λ fs. (bytes : List ℕ) × (file_named name fs ≡ Some bytes) × (limit < length bytes))
-
-abbrev pub IsMissing : Option Files → List ℕ → Type 0
-IsMissing files name = IsSomeAnd files (λ fs. file_named name fs ≡ None)
+-- ---- the files
 
 -- the file is a source that stands for some contract
 abbrev pub HasAccepted : Option Files → List ℕ → Type 0
 HasAccepted files name = (source : List ℕ) × (contract : Contract Slot Ty) × IsFile files name source
     × IsAccepted source contract
-
--- a file of arguments has at most so many bytes
-abbrev pub max_spend_len : ℕ
-max_spend_len = 4194304
 
 -- the file is a source that stands for the contract, and the program was compiled from it
 pub record IsBuilt (files : Option Files) (name source : List ℕ) (contract : Contract Slot Ty) (program : Artifact) : Type 0 where
@@ -135,6 +120,7 @@ pub record IsReport (files : Option Files) (source_name spend_name : List ℕ) (
 abbrev pub IsShownFor : Option Files → Option Command → ℕ → List ℕ → Type 0
 IsShownFor files (Some (compile_file source)) status text = (status ≡ 0) × IsLine files source text
 IsShownFor files (Some (debug_files source spend)) status text = IsReport files source spend status text
+IsShownFor files (Some (spend_by artifact spend)) status text = IsSpent files artifact spend status text
 IsShownFor files None status text = ⊥
 
 -- what statuses 0 and 3 write to `out`
@@ -166,27 +152,26 @@ abbrev pub IsSpendStop : Contract Slot Ty → List ℕ → InputStop → Type 0
 IsSpendStop contract spend stop =
     IsLineStop spend stop ⊎ ((args : List (List ℕ)) × (spend_elements spend ≡ Ok args) × IsCountStop contract args stop)
 
-abbrev pub input_too_long : List ℕ
-input_too_long = codes "input TooLong\n"
-
 -- the source is accepted, and the file of arguments is longer than it may be, or it isn't and is refused
 abbrev pub IsInputRefusal : Option Files → List ℕ → List ℕ → List ℕ → Type 0
 IsInputRefusal files source_name spend_name text =
     (source : List ℕ) × (contract : Contract Slot Ty) × IsFile files source_name source × IsAccepted source contract
-    × ((IsLonger files spend_name max_spend_len × (text ≡ input_too_long))
-    ⊎ ((spend : List ℕ) × (stop : InputStop) × IsFile files spend_name spend × (length spend ≤ max_spend_len)
+    × ((IsLonger files spend_name max_input_len × (text ≡ input_too_long))
+    ⊎ ((spend : List ℕ) × (stop : InputStop) × IsFile files spend_name spend × (length spend ≤ max_input_len)
     × IsSpendStop contract spend stop
     × (text ≡ input_line stop)))
 
-abbrev pub IsInputRefusalFor : Option Files → Command → List ℕ → Type 0
-IsInputRefusalFor files (compile_file source) text = ⊥
-IsInputRefusalFor files (debug_files source spend) text = IsInputRefusal files source spend text
+-- the source is refused, or it isn't, and what is handed in with it is
+abbrev pub IsRefusedFor : Option Files → Command → ℕ → List ℕ → Type 0
+IsRefusedFor files (compile_file source) status text = (status ≡ 1) × IsRefusal files source text
+IsRefusedFor files (debug_files source spend) status text =
+    ((status ≡ 1) × IsRefusal files source text) ⊎ ((status ≡ 4) × IsInputRefusal files source spend text)
+IsRefusedFor files (spend_by artifact spend) status text = (status ≡ 4) × IsSpendRefusal files artifact spend text
 
--- the words are no command; or the source is refused; or it isn't, and what is handed in with it is
+-- the words are no command, or their command is refused
 abbrev pub IsToldFor : Option Files → Option Command → ℕ → List ℕ → Type 0
 IsToldFor files None status text = (status ≡ 2) × (text ≡ usage)
-IsToldFor files (Some command) status text =
-    ((status ≡ 1) × IsRefusal files (source_name command) text) ⊎ ((status ≡ 4) × IsInputRefusalFor files command text)
+IsToldFor files (Some command) status text = IsRefusedFor files command status text
 
 -- what statuses 1, 2 and 4 write to `err`
 abbrev pub IsTold : Option Files → List (String Global) → ℕ → List ℕ → Type 0
@@ -198,10 +183,11 @@ abbrev pub read_failed : List ℕ
 read_failed = codes "read failed\n"
 
 -- The store tells its files, and lacks one that the command reads. A file of arguments is read only beside a source that is
--- accepted.
+-- accepted, and a spend file only beside the artifact of a program.
 abbrev pub LacksFile : Option Files → Command → Type 0
 LacksFile files (compile_file source) = IsMissing files source
 LacksFile files (debug_files source spend) = IsMissing files source ⊎ (IsMissing files spend × HasAccepted files source)
+LacksFile files (spend_by artifact spend) = LacksSpendFile files artifact spend
 
 -- the cause of status 5: the store had a fault, or lacks a file
 abbrev pub HasReadCauseFor : Option Files → Option Command → ℕ → ℕ → Type 0

@@ -5,33 +5,30 @@ ghost use Rattle.hex.specs.Hex.{encode_lower};
 ghost use Rattle.artifact_json.specs.Artifact.{HasFewInputs};
 ghost use Rattle.spend_debug.specs.SpendLines.{spend_elements};
 ghost use Rattle.spend_debug.specs.SpendDebug.{built_scripts, told_of};
-ghost use Rattle.spend_debug.specs.Telling.{report_lines};
 ghost use Rattle.cash_compile.specs.Compile.{max_source_len, IsCompiled};
+ghost use Rattle.command_files.specs.Files.{IsSaid};
 ghost use Rattle.cashc.specs.TopCall;
-ghost use Rattle.cashc.specs.TopCall.{IsFile, IsShownFor, IsLine, IsReport, IsJudged};
-ghost use Rattle.cashc.specs.Answering.{seen, IsSaid, HasFileCause, HasSourceCause, HasInputCause, HasLinesCause, HasScriptsCause, HasSpendCause, HasCause, report_status};
-ghost use Rattle.cashc.specs.declared.commands.Stop.TheVariants.{Memory as WithoutMemory};
+ghost use Rattle.cashc.specs.TopCall.{IsShownFor, IsLine, IsReport, IsJudged};
+ghost use Rattle.cashc.specs.Answering.{seen, HasSourceCause, HasInputCause, HasLinesCause, HasScriptsCause, HasArgumentsCause, HasCause};
 
 use crate::refusal_text::{SOURCE_TOO_LONG, refusal_text};
 use artifact_json::Program;
-use bch_vm::{Machine, MachineOutcome};
-use cash_base::{Element, Memory, Store, StoreStop};
+use bch_vm::Machine;
+use cash_base::{Element, Memory, Store};
 use cash_compile::compile::{Compiled, compile, one_function};
 use cash_compile::{MAX_SOURCE_LEN, Refusal};
+use command_files::{Output, Stop, read_file};
 use script_codec::encode;
+use spend_command::reports::report_answer;
+use spend_command::{INPUT_TOO_LONG, MAX_INPUT_LEN, spend_files};
 use spend_debug::spend_lines::read_elements_are_few;
 use spend_debug::spends::{built_scripts_are_of_a_call, told_as_a_failure};
 use spend_debug::{
     InputStop, Report, Spend, SpendStop, build_stop, debug, input_text, line_stop, plain_frame,
-    report_text, spend_lines,
+    spend_lines,
 };
 use std::alloc::{AllocError, Global};
 use tx_context::Verdicts;
-
-/// The most bytes of a file of arguments.
-const MAX_SPEND_LEN: usize = 4_194_304;
-
-const INPUT_TOO_LONG: &str = "input TooLong\n";
 
 /// When a program was compiled, where nothing else is said.
 const NO_TIME: &str = "1970-01-01T00:00:00.000Z";
@@ -43,44 +40,13 @@ pub enum Command<'a> {
     Compile { source: &'a str },
     /// A spend of a source's contract, with the arguments of a second file.
     Debug { source: &'a str, spend: &'a str },
-}
-
-/// What a command shows, and the status that goes with it: 0, or 3 where the machine refuses.
-#[derive(Drop)]
-pub struct Output {
-    pub status: u8,
-    pub text: Vec<u8>,
-}
-
-/// Why a command shows nothing.
-#[derive(Drop)]
-pub enum Stop {
-    /// A file is refused, with the status 1 or 4 and this text.
-    Refused { status: u8, text: Vec<u8> },
-    /// A file could not be read.
-    Unread,
-    /// Memory ran out.
-    Memory,
-}
-
-impl From<Memory> for Stop {
-    ghost from_gives = { λ _ stop. stop ≡ WithoutMemory };
-
-    fn from(_e: Memory) -> Stop {
-        Stop::Memory
-    }
-}
-
-impl From<AllocError> for Stop {
-    ghost from_gives = { λ _ stop. stop ≡ WithoutMemory };
-
-    fn from(_e: AllocError) -> Stop {
-        Stop::Memory
-    }
+    /// A spend of an artifact's program, as a spend file asks for it.
+    Spend { artifact: &'a str, spend: &'a str },
 }
 
 /// What a command shows, and the status that goes with it, or why it shows nothing: a refusal with status 1 or 4 and its
 /// text, that a file could not be read, or that memory ran out. Nothing is written.
+#[tactic(auto, using(crate::proofs::Answered::spend_stopped))]
 pub fn answer<S: Store>(alloc: Global, command: &Command<'_>, store: &mut S) -> Result<Output, Stop>
     ensures shown { IfOk result (λ output.
         IsShownFor (S.files store.old) (Some (seen command.now)) output.status output.text.items) }
@@ -94,35 +60,7 @@ pub fn answer<S: Store>(alloc: Global, command: &Command<'_>, store: &mut S) -> 
     match command {
         Command::Compile { source } => compile_file(alloc, source, store),
         Command::Debug { source, spend } => debug_files(alloc, source, spend, store),
-    }
-}
-
-/// The bytes of a file, if it has at most so many; of a longer one the status and the text tell.
-fn read_file<S: Store>(
-    alloc: Global,
-    name: &str,
-    limit: usize,
-    status: u8,
-    too_long: &str,
-    store: &mut S,
-) -> Result<Vec<u8>, Stop>
-    requires { too_long.now ≢ [] }
-    ensures read { IfOk result (λ bytes. IsFile (S.files store.old) name.now bytes.items × (length bytes.items ≤ limit)) }
-    ensures stopped { IfErr result (λ stop.
-        HasFileCause (S.files store.old) name.now limit status too_long.now (S.faults store.old) (S.faults store.new) stop) }
-    ensures said { IfErr result (λ stop. IsSaid stop) }
-    ensures later { S.faults store.old ≤ S.faults store.new }
-    ensures files { S.files store.new ≡ S.files store.old }
-{
-    let mut bytes = Vec::new(alloc);
-    match store.read(name, limit, &mut bytes) {
-        Ok(()) => Ok(bytes),
-        Err(StoreStop::TooLong) => {
-            let text = Vec::from_slice(alloc, too_long.as_bytes())?;
-            Err(Stop::Refused { status, text })
-        }
-        Err(StoreStop::Failed) => Err(Stop::Unread),
-        Err(StoreStop::Memory) => Err(Stop::Memory),
+        Command::Spend { artifact, spend } => spend_files(alloc, artifact, spend, store),
     }
 }
 
@@ -188,7 +126,7 @@ fn debug_files<S: Store>(
 {
     let source = read_file(alloc, name, MAX_SOURCE_LEN, 1, SOURCE_TOO_LONG, store)?;
     let compiled = compiled(alloc, source.as_slice())?;
-    let spend = read_file(alloc, spend_name, MAX_SPEND_LEN, 4, INPUT_TOO_LONG, store)?;
+    let spend = read_file(alloc, spend_name, MAX_INPUT_LEN, 4, INPUT_TOO_LONG, store)?;
     let output = judged(alloc, source.as_slice(), &compiled, spend.as_slice())?;
     Ok(output)
 }
@@ -201,7 +139,7 @@ fn judged(alloc: Global, source: &[u8], compiled: &Compiled, spend: &[u8]) -> Re
     ensures shown { IfOk result (λ output.
         IsJudged source.now compiled.now.contract compiled.now.program spend.now output.status output.text.items) }
     ensures some { IfOk result (λ output. output.text.items ≢ []) }
-    ensures stopped { IfErr result (λ stop. HasSpendCause compiled.now.contract spend.now stop) }
+    ensures stopped { IfErr result (λ stop. HasArgumentsCause compiled.now.contract spend.now stop) }
     ensures said { IfErr result (λ stop. IsSaid stop) }
 {
     read_elements_are_few();
@@ -274,20 +212,4 @@ fn plain_spend(alloc: Global, args: Vec<Element>) -> Result<Spend, Memory>
         frame: plain_frame(alloc)?,
         verdicts,
     })
-}
-
-/// The lines of a report, and the status that goes with it.
-fn report_answer(alloc: Global, source: &[u8], report: &Report) -> Result<Output, Stop>
-    requires { length source.now ≤ max_source_len }
-    ensures report { IfOk result (λ output. (output.status ≡ report_status report.now)
-        × (output.text.items ≡ report_lines source.now report.now)) }
-    ensures some { IfOk result (λ output. output.text.items ≢ []) }
-    ensures stopped { IfErr result (λ stop. stop ≡ WithoutMemory) }
-{
-    let text = report_text(alloc, source, report)?;
-    let status = match report.outcome {
-        MachineOutcome::Accepted => 0,
-        MachineOutcome::Refused { .. } => 3,
-    };
-    Ok(Output { status, text })
 }

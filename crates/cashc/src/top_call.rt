@@ -7,8 +7,9 @@ ghost use Rattle.cashc.specs.TopCall;
 ghost use Rattle.cashc.specs.TopCall.{read_failed, IsShown, IsTold, HasReadCause, Stopped, Tried};
 ghost use Rattle.cashc.specs.Answering.{seen};
 
-use crate::commands::{Command, Output, Stop, answer};
+use crate::commands::{Command, answer};
 use cash_base::{Sink, Store};
+use command_files::{Output, Stop};
 use std::alloc::Global;
 
 const USAGE: &str =
@@ -22,16 +23,18 @@ const OUT_OF_MEMORY: &str = "out of memory\n";
 ///
 /// `compile FILE` reads a source and writes the line `code HEX`. `debug SOURCE SPEND` reads a source and a file of
 /// arguments, and writes the lines `redeem HEX`, `unlocking HEX` and `locking HEX`, and then `accepted`, or `refused
-/// LINE:COL CAUSE opcode N`: the place in the source, the cause, and the index of the instruction in the redeem script. The
-/// statuses are
+/// LINE:COL CAUSE opcode N`: the place in the source, the cause, and the index of the instruction in the redeem script. `spend
+/// ARTIFACT SPEND` reads an artifact and a spend file, and writes the same lines; where there is no place, the script that the
+/// machine refuses stands for it. The statuses are
 ///
 /// - 0: the code was written to `out`, or the scripts of an accepted spend.
 /// - 1: the source is refused: the line on `err` is that of its refusal.
 /// - 2: the words are no command that is built so far.
 /// - 3: the machine refuses the spend; the lines were written to `out`.
-/// - 4: the file of arguments is refused, or has other than as many arguments as the contract's function has parameters: a
-///   line on `err` begins with `input`.
-/// - 5: the store had a fault, or has no such file. A file of arguments is read only where the source is accepted.
+/// - 4: the file of arguments is refused, or has other than as many arguments as the contract's function has parameters; or
+///   the artifact is refused, the spend file, or a value in it: a line on `err` begins with `input`.
+/// - 5: the store had a fault, or has no such file. A file of arguments is read only where the source is accepted, and a spend
+///   file only where the artifact is.
 /// - 6: a sink had a fault.
 /// - 7: memory ran out.
 ///
@@ -88,6 +91,10 @@ fn command_of(words: &[String]) -> Option<Command<'_>>
         }),
         [command, source, spend] if command.as_str() == "debug" => Some(Command::Debug {
             source: source.as_str(),
+            spend: spend.as_str(),
+        }),
+        [command, artifact, spend] if command.as_str() == "spend" => Some(Command::Spend {
+            artifact: artifact.as_str(),
             spend: spend.as_str(),
         }),
         _ => None,

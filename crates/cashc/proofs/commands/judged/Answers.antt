@@ -1,7 +1,7 @@
 use Rattle.std.proofs.Common.{map, refl}
 use Rattle.std.proofs.lemmas.Result.{err_from_is_err_and}
 use Rattle.spend_debug.specs.Telling.{report_lines}
-use Rattle.cashc.specs.Answering.{report_status}
+use Rattle.spend_command.specs.Spent.{report_status}
 use Rattle.cashc.proofs.Judged.{told, plain_is_frame, same_output, scripts_stopped}
 use Rattle.cashc.proofs.commands.judged.Goals as goal
 
