@@ -3,13 +3,14 @@
 ghost use Rattle.std.specs.Prelude.{◌≤◌, length};
 ghost use Rattle.source_meaning.specs.Runnable.{CanRun};
 
-use crate::sources::{LONGEST, runnable};
+use crate::sources::runnable;
 use anyhow::{Result, bail, ensure};
 use cash_base::element::copy_of;
 use cash_base::{Element, TypedValue, write_number};
 use cash_tree::TypedContract;
 use source_meaning::{SourceOutcome, SourceRoom, World};
 use span_map::line_col;
+use spend_case_files::sources::LONGEST;
 use spend_json::{Choice, SpendFile};
 use std::alloc::Global;
 use tx_context::fill;

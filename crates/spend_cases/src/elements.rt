@@ -1,9 +1,9 @@
 //! The elements of values.
 
-use crate::text::{split, stop_text};
 use anyhow::{Result, bail};
 use cash_base::TypedValue;
 use cash_tree::Ty;
+use spend_case_files::text::{split, stop_text};
 use spend_debug::build_stop;
 use std::alloc::Global;
 use unlocker::element_of;

@@ -1,53 +1,21 @@
 //! Spends that spend files ask for, of programs that artifacts keep.
 
-ghost use Rattle.std.specs.Prelude.{IfOk};
-ghost use Rattle.artifact_json.specs.Artifact.{HasFewInputs};
-
 use crate::reports::told;
-use crate::text::stop_text;
-use anyhow::{Context, Result, bail};
-use artifact_json::Program;
+use anyhow::{Result, bail, ensure};
 use bch_vm::{Machine, Which};
-use spend_debug::{SpendStop, build_stop};
-use spend_json::SpendFile;
+use source_meaning::{SourceOutcome, SourceRoom};
+use span_map::line_col;
+use spend_case_files::files::{files, program_of, spend_of, stopped};
+use spend_case_files::sources::{LONGEST, contract_of};
+use spend_meaning::{has_parameters_of, meaning};
 use spend_trace::{TraceRow, debug, trace};
 use std::alloc::Global;
-
-/// The program of an artifact.
-fn program_of(alloc: Global, artifact: &str) -> Result<Program>
-    ensures { IfOk result HasFewInputs }
-{
-    let Ok(program) = artifact_json::read(alloc, artifact.as_bytes()) else {
-        bail!("no artifact");
-    };
-    Ok(program)
-}
-
-/// What a spend file asks for.
-fn spend_of(alloc: Global, file: &str) -> Result<SpendFile> {
-    let Ok(spend) = spend_json::read(alloc, file.as_bytes()) else {
-        bail!("no spend file");
-    };
-    Ok(spend)
-}
-
-fn files(case: &str) -> Result<(&str, &str)> {
-    case.split_once('\t')
-        .context("a tab stands between two files")
-}
 
 fn machine(alloc: Global) -> Result<Machine> {
     let Ok(machine) = Machine::new(alloc) else {
         bail!("out of memory");
     };
     Ok(machine)
-}
-
-fn stopped(alloc: Global, stop: SpendStop) -> Result<String> {
-    match stop {
-        SpendStop::Build(fault) => stop_text(alloc, build_stop(fault)),
-        SpendStop::Memory => bail!("out of memory"),
-    }
 }
 
 /// The report on a spend.
@@ -100,4 +68,36 @@ pub fn traced(alloc: Global, case: &str) -> Result<String> {
     }
     text.push_str(told(alloc, program.source.as_str(), &report)?.as_str())?;
     Ok(text)
+}
+
+/// How the run of the source ends that an artifact has.
+pub fn meant(alloc: Global, case: &str) -> Result<String> {
+    let (artifact, file) = files(case)?;
+    let program = program_of(alloc, artifact)?;
+    let spend = spend_of(alloc, file)?;
+    let source = program.source.as_str();
+    ensure!(source.len() <= LONGEST, "the source is too long");
+    let contract = contract_of(alloc, source)?;
+    ensure!(
+        has_parameters_of(&program, &contract),
+        "the program is none of the source"
+    );
+    let Ok(mut room) = SourceRoom::new(alloc) else {
+        bail!("out of memory");
+    };
+    match meaning(alloc, &program, &contract, &spend, &mut room) {
+        Ok(meant) => ending(alloc, source, meant.outcome),
+        Err(stop) => stopped(alloc, stop),
+    }
+}
+
+fn ending(alloc: Global, source: &str, outcome: SourceOutcome) -> Result<String> {
+    ensure!(source.len() <= LONGEST, "the source is too long");
+    match outcome {
+        SourceOutcome::Met => Ok(String::from_str(alloc, "met\n")?),
+        SourceOutcome::Failed { span, cause } => {
+            let (line, column) = line_col(source, span.from);
+            Ok(format!(in alloc; "failed {line}:{column} {cause:?}\n")?)
+        }
+    }
 }

@@ -14,6 +14,7 @@
 //!   artifact.
 //! - `trace ARTIFACT FILE`: the same, and before it a line `SCRIPT INDEX OPCODE PLACE HEIGHT` for each instruction that is executed;
 //!   the place as FROM-TO in bytes of the source, or `-`.
+//! - `meaning ARTIFACT FILE`: how the run of the artifact's source ends, `met` or `failed LINE:COL CAUSE`.
 //!
 //! Bytes stand in hexadecimal, and `-` is none. Elements stand with commas between them, and `none` is no element. Where no
 //! spend is made, the answer is the line that says why.
@@ -24,16 +25,15 @@ mod elements;
 mod files;
 mod reports;
 mod scripts;
-mod text;
 
 use anyhow::{Result, bail};
 use elements::elements;
-use files::{judged, traced};
+use files::{judged, meant, traced};
 use reports::{arguments, report, spend};
 use scripts::scripts;
+use spend_case_files::text::split;
 use std::alloc::Global;
 use std::io::{BufRead, BufReader};
-use text::split;
 
 fn answer(alloc: Global, line: &str) -> Result<String> {
     let (case, rest) = split(line);
@@ -45,6 +45,7 @@ fn answer(alloc: Global, line: &str) -> Result<String> {
         "elements" => elements(alloc, rest),
         "file" => judged(alloc, rest),
         "trace" => traced(alloc, rest),
+        "meaning" => meant(alloc, rest),
         _ => bail!("{case} is no case"),
     }
 }

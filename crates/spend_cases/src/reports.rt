@@ -1,10 +1,10 @@
 //! Files of arguments, spends and reports.
 
 use crate::contracts::{SOURCE, equality};
-use crate::text::{bytes, elements, split, stop_text};
 use anyhow::{Result, bail};
 use bch_vm::{Machine, MachineCause, MachineOutcome, Which};
 use cash_base::{Cause, Span};
+use spend_case_files::text::{bytes, elements, split, stop_text};
 use spend_debug::spend_lines::read;
 use spend_debug::{
     Report, Spend, SpendStop, build_stop, debug, line_stop, plain_frame, report_text,

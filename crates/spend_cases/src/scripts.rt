@@ -1,10 +1,10 @@
 //! The scripts of spends.
 
 use crate::contracts::contract;
-use crate::text::{elements, split, stop_text};
 use anyhow::Result;
 use artifact_json::Program;
 use cash_base::Element;
+use spend_case_files::text::{elements, split, stop_text};
 use spend_debug::build_stop;
 use std::alloc::Global;
 use unlocker::{BuildFault, locking, redeem, unlocking};
