@@ -23,10 +23,13 @@ use Rattle.slot_code.specs.declared.slots.SlotInstr.{SlotInstr}
 use Rattle.slot_code.specs.declared.slots.SlotFunction.{SlotFunction}
 use Rattle.slot_code.specs.Meaning.{state, run_of, handed}
 use Rattle.slot_code.specs.Shape.{Operand, Place, has, closed, path_shape, shapes_of, first_slots, start, ends_rightly as rows_end, is_body, IsWellFormed}
+use Rattle.slot_code.specs.Weight.{path_weigh}
 use Rattle.slot_expressions.proofs.Single.{and_intro, and_left, and_right}
 use Rattle.slot_lowering.specs.Scoped.{has_values, ReadyBody, ends_rightly}
 use Rattle.slot_lowering.specs.Statements.{Holds, IsPath, LowersBodyAt, met, leave_all, is_scoped}
-use Rattle.slot_lowering.specs.Functions.{in_slots, function_fits, CanLower, CanLowerFunction, HasCounts, RunsAs, IsLowered, AreLowered, LeftFunctions}
+use Rattle.slot_lowering.specs.Functions.{in_slots, function_fits, CanLower, CanLowerFunction, HasCounts, RunsAs, IsWeighed, IsLowered, AreLowered, LeftFunctions}
+use Rattle.slot_lowering.specs.Room.{path_pays, pays_of, function_price}
+use Rattle.slot_lowering.specs.Weighed.{weights, AtEnd}
 
 -- ---- the slots at the start
 
@@ -132,6 +135,13 @@ some_closed : (o : Option Place) (p : Place) → o ≡ Some p → p.operands ≡
 some_closed o p is empty =
     ap (λ q. is_some (option_and_then closed q)) is ∙ ap (λ (l : List Operand). is_some (if length l == 0 then Some p else None)) empty
 
+weighed : {contract : Contract Slot Ty} {f : Function Slot Ty} {g : SlotFunction} → g.ctors + g.params ≡ length contract.params + length f.params → AtEnd g.body (path_pays (map pays_of f.body)) → IsWeighed contract f g
+weighed {contract} {f} {g} count h =
+    let n : ℕ = length contract.params + length f.params in record {
+      bytes = subst (λ k. (path_weigh (weights g.body) k).bytes ≤ (function_price contract f).bytes) (sym count) (h.within.bytes n);
+      ops = subst (λ k. (path_weigh (weights g.body) k).ops ≤ (function_price contract f).ops) (sym count) (h.within.ops n);
+    }
+
 pub is_lowered : {contract : Contract Slot Ty} {f : Function Slot Ty} {none_yet : List SlotInstr} {g : SlotFunction} → CanLowerFunction contract f → none_yet ≡ []
     → LowersBodyAt true none_yet g.body f.body → g.ctors ≡ length contract.params → g.params ≡ length f.params → g.span ≡ f.span → IsLowered contract f g
 is_lowered {contract} {f} {none_yet} {g} can none_is h ctors_is params_is span_is =
@@ -160,6 +170,7 @@ is_lowered {contract} {f} {none_yet} {g} can none_is h ctors_is params_is span_i
             (p.alike world (handed ctor args) (holds_handed ctor args n at_start))
             ∙ ap (λ env. ended (env_after_all world f.body env)) (sym (handed_alike contract f ctor args can.params (and_left (in_slots ctors f.params) (nat_le n 160) first) ctor_count arg_count));
       };
+      weight = weighed count (subst (λ l. AtEnd l (path_pays (map pays_of f.body))) (sym rows_are) (path.weight (and_right (is_scoped f.body slots) (ends_rightly f.body) third)));
     }
 
 pub is_made : {contract : Contract Slot Ty} {f : Function Slot Ty} {none_yet body : List SlotInstr} {stmts : List (Stmt Slot Ty)} {params ctors : ℕ} {span : Span} → CanLowerFunction contract f → none_yet ≡ []
@@ -216,6 +227,9 @@ counts_of_all {contract} {gs} h = each contract.functions gs (λ f g is. is.coun
 
 pub runs_of_all : {contract : Contract Slot Ty} {gs : List SlotFunction} → AreLowered contract contract.functions gs → AllZip (RunsAs contract) contract.functions gs
 runs_of_all {contract} {gs} h = each contract.functions gs (λ f g is. is.run) h.all
+
+pub weights_of_all : {contract : Contract Slot Ty} {gs : List SlotFunction} → AreLowered contract contract.functions gs → AllZip (IsWeighed contract) contract.functions gs
+weights_of_all {contract} {gs} h = each contract.functions gs (λ f g is. is.weight) h.all
 
 shapes : (contract : Contract Slot Ty) (fs : List (Function Slot Ty)) (gs : List SlotFunction) → AllZip (IsLowered contract) fs gs → AllByRecursion IsWellFormed gs
 shapes contract [] [] h = tt

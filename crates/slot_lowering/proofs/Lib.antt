@@ -1,4 +1,6 @@
 pub mod ScopedSteps
+pub mod PricingSteps
+pub mod Weights
 pub mod Values
 pub mod Simple
 pub mod Blocks

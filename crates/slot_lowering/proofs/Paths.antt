@@ -1,6 +1,6 @@
 -- Paths: statements behind which nothing stands.
-use Rattle.std.proofs.Common.{◌≡◌, ℕ, ◌==◌, Bool, true, false, List, [], ◌∷◌, ◌++◌, length, map, Result, Ok, Err, refl, sym, ap, ◌∙◌, subst}
-use Rattle.std.specs.Prelude.{◌&&◌, Some, None, Option, option_and_then, if◌then◌else◌}
+use Rattle.std.proofs.Common.{◌≡◌, ℕ, ◌==◌, Bool, true, false, List, [], ◌∷◌, ◌++◌, length, map, Result, Ok, Err, refl, sym, ap, ◌∙◌, subst, arith}
+use Rattle.std.specs.Prelude.{◌&&◌, Some, None, Option, option_and_then, unwrap_or, if◌then◌else◌}
 use Rattle.std.proofs.lemmas.List.{map-append}
 use Rattle.std.proofs.lemmas.List.Folds.{list_all-append}
 use Rattle.cash_base.specs.declared.place.Span.{Span}
@@ -23,10 +23,15 @@ use Rattle.slot_code.specs.declared.slots.SlotKind.TheVariants as kinds
 use Rattle.slot_code.specs.Meaning.{state, act_of, all_acts, run_of}
 use Rattle.slot_code.specs.Shape.{Operand, Place, Shapes, Shape, all_shapes, path_shape, path_block, is_over, ends_rightly as rows_end, other_ends, shapes_of, shapes_at, stands_in, begins, check, closed, takes_all, then_shape, choice_shape, fork_shape, in_both, with_seen, with_slots}
 use Rattle.slot_code.proofs.Steps as steps
+use Rattle.slot_expressions.specs.Room.{price_of}
 use Rattle.slot_expressions.specs.Pieces.{LowersElement, instruction, seen_with}
 use Rattle.slot_lowering.specs.Scoped.{Part, value_scoped, part_of, part_of_kind, all_scoped, last_of, may_end, may_end_kind}
 use Rattle.slot_lowering.specs.Statements.{Holds, IsPath, IsBranch, LowersStmt, LowersLast, LowersLastKind, LowersPath, met, place, leaves, leave_all, is_scoped}
+use Rattle.slot_lowering.specs.Room.{Pays, if_pays, path_pays, pays_of, pays_at}
+use Rattle.slot_lowering.specs.Weighed.{Within, AtEnd}
 use Rattle.slot_lowering.proofs.ScopedSteps as scoped
+use Rattle.slot_lowering.proofs.PricingSteps as pricing
+use Rattle.slot_lowering.proofs.Weights.{paid_at_end, more_at_end, none_within, fork_at_end}
 use Rattle.slot_expressions.proofs.Puts.{run_append, run_one}
 use Rattle.slot_expressions.proofs.Standing.{begun, shape_append, seen_now}
 use Rattle.slot_expressions.proofs.Single.{and_intro, and_left, and_right, grown1}
@@ -87,6 +92,7 @@ path_more {old} {mid} {new} {s} {t} {body} h p = record {
         ends = ap rows_end both ∙ ends_append (map shapes_of h.rows) (map shapes_of p.rows) q.goes_on ∙ q.ends;
         goes_on = ap is_over both ∙ not_over (map shapes_of h.rows) (map shapes_of p.rows) q.goes_on;
       };
+  weight = λ ends. more_at_end (pays_of s) (pays_of t) (map pays_of body) h.weight (p.weight ends);
 }
 
 alone : (r : Result Env Failure) → met r ≡ met (r >>= λ after. Ok after)
@@ -104,6 +110,7 @@ path_last {old} {new} {s} h = record {
         ends = q.ends;
         goes_on = q.goes_on;
       };
+  weight = h.weight;
 }
 
 -- ---- the last statement
@@ -119,6 +126,7 @@ last_stmt {old} {new} {s} h = record {
         ends = q.ends;
         goes_on = q.goes_on;
       };
+  weight = λ ends. subst (λ (p : Pays). AtEnd h.rows p.last) (sym (pricing.whole_pays s)) (h.weight (sym (scoped.whole_ends s) ∙ ends));
 }
 
 met_ok : (r : Result Env Failure) → met (r >>= λ after. Ok (state [] after)) ≡ met r
@@ -147,8 +155,8 @@ pub last_check : {old mid new : List SlotInstr} {span : Span} {kind : StmtKind S
     → ((world : World) (x : List ℕ) (env : Env) → act_of world (instruction row span span) (state (x ∷ []) env) ≡ (f world x env >>= λ after. Ok (state [] after)))
     → ((world : World) (env : Env) → kind_leaves world kind span env ≡ (element (value_of world env e) >>= λ x. f world x env))
     → ((world : World) (x : List ℕ) (env after : Env) → f world x env ≡ Ok after → env ≡ after)
-    → LowersElement old mid span e → new ≡ mid ++ instruction row span span ∷ [] → LowersLastKind old new kind span
-last_check {old} {mid} {new} {span} {kind} {e} row f parts shape acts is same h grown =
+    → (h : LowersElement old mid span e) → AtEnd (h.rows ++ instruction row span span ∷ []) (pays_at kind).last → new ≡ mid ++ instruction row span span ∷ [] → LowersLastKind old new kind span
+last_check {old} {mid} {new} {span} {kind} {e} row f parts shape acts is same h paid grown =
     let i = instruction row span span in record {
       rows = h.rows ++ i ∷ [];
       grown = grown1 old h.rows (i ∷ []) h.grown grown;
@@ -168,6 +176,7 @@ last_check {old} {mid} {new} {span} {kind} {e} row f parts shape acts is same h 
             ends = ap rows_end both ∙ ends_append (map shapes_of h.rows) (map shapes_of (i ∷ [])) on ∙ row_ends row span check shape;
             goes_on = ap is_over both ∙ not_over (map shapes_of h.rows) (map shapes_of (i ∷ [])) on;
           };
+      weight = λ ends. paid;
     }
   where
     as_shapes : (o : Option Place) → ((q : Place) → path_shape (map shapes_of (instruction row span span ∷ [])) q ≡ all_shapes (map shapes_of (instruction row span span ∷ [])) q)
@@ -181,7 +190,8 @@ last_time {old} {mid} {new} {span} {kind} {e} is h grown =
     last_check kinds.Time (λ world x env. passed span (time_outcome world.context x) env) (ap part_of_kind is ∙ scoped.time_part e) steps.time_stands
     (λ world x env. row_done world kinds.Time span span _ (state (x ∷ []) env) (steps.time_done world))
     (λ world env. ap (λ k. kind_leaves world k span env) is ∙ source.time_leaves world e span env)
-    (λ world x env after done. passed_same span (time_outcome world.context x) env after done) h grown
+    (λ world x env after done. passed_same span (time_outcome world.context x) env after done) h
+    (paid_at_end kind kinds.Time span steps.time_weighs refl (ap pays_at is ∙ pricing.time_pays e) (λ n. omega arith) (λ n. omega arith) h.light) grown
 
 pub last_age : {old mid new : List SlotInstr} {span : Span} {kind : StmtKind Slot Ty} {e : TypedExpr} → kind ≡ stmts.Age e
     → LowersElement old mid span e → new ≡ mid ++ instruction kinds.Age span span ∷ [] → LowersLastKind old new kind span
@@ -189,7 +199,8 @@ last_age {old} {mid} {new} {span} {kind} {e} is h grown =
     last_check kinds.Age (λ world x env. passed span (age_outcome world.context x) env) (ap part_of_kind is ∙ scoped.age_part e) steps.age_stands
     (λ world x env. row_done world kinds.Age span span _ (state (x ∷ []) env) (steps.age_done world))
     (λ world env. ap (λ k. kind_leaves world k span env) is ∙ source.age_leaves world e span env)
-    (λ world x env after done. passed_same span (age_outcome world.context x) env after done) h grown
+    (λ world x env after done. passed_same span (age_outcome world.context x) env after done) h
+    (paid_at_end kind kinds.Age span steps.age_weighs refl (ap pays_at is ∙ pricing.age_pays e) (λ n. omega arith) (λ n. omega arith) h.light) grown
 
 pub last_require : {old mid new : List SlotInstr} {span : Span} {kind : StmtKind Slot Ty} {e : TypedExpr} → kind ≡ stmts.Require e
     → LowersElement old mid span e → new ≡ mid ++ instruction kinds.Require span span ∷ [] → LowersLastKind old new kind span
@@ -197,7 +208,8 @@ last_require {old} {mid} {new} {span} {kind} {e} is h grown =
     last_check kinds.Require (λ world x env. checked span x env) (ap part_of_kind is ∙ scoped.require_part e) steps.require_stands
     (λ world x env. row_done world kinds.Require span span _ (state (x ∷ []) env) (steps.require_done world))
     (λ world env. ap (λ k. kind_leaves world k span env) is ∙ source.require_leaves world e span env)
-    (λ world x env after done. checked_same (truth_of x) span env after done) h grown
+    (λ world x env after done. checked_same (truth_of x) span env after done) h
+    (paid_at_end kind kinds.Require span steps.require_weighs refl (ap pays_at is ∙ pricing.require_pays e) (λ n. omega arith) (λ n. omega arith) h.light) grown
 
 -- ---- the last choice
 
@@ -249,8 +261,10 @@ last_choice : {old mid new a b : List SlotInstr} {span : Span} {kind : StmtKind 
     → LowersElement old mid span e
     → ((slots : List Slot) → is_scoped ss slots ≡ true → may_end_kind kind ≡ true → IsBranch a (leave_all ss) slots × (rows_end (map shapes_of a) ≡ true))
     → ((slots : List Slot) → is_scoped us slots ≡ true → may_end_kind kind ≡ true → IsBranch b (leave_all us) slots)
+    → (o : Option (List Pays)) → pays_at kind ≡ if_pays (price_of e) (map pays_of ss) o → unwrap_or o [] ≡ map pays_of us
+    → (may_end_kind kind ≡ true → Within a (path_pays (map pays_of ss))) → (may_end_kind kind ≡ true → Within b (path_pays (map pays_of us)))
     → new ≡ mid ++ instruction (kinds.If a b) span span ∷ [] → LowersLastKind old new kind span
-last_choice {old} {mid} {new} {a} {b} {span} {kind} {e} ss us parts is h ya na grown =
+last_choice {old} {mid} {new} {a} {b} {span} {kind} {e} ss us parts is h ya na o pays other wa wb grown =
     let i = instruction (kinds.If a b) span span in
     let x : Shapes = record { inner = then_shape (takes_all 1) (choice_shape (map shapes_of a) (map shapes_of b)); last = then_shape (takes_all 1) (fork_shape (map shapes_of a) (map shapes_of b)); is_end = false; may_end = rows_end (map shapes_of a) && other_ends (map shapes_of b) } in
     let row : shapes_at (kinds.If a b) ≡ x = steps.if_stands a b in
@@ -284,6 +298,7 @@ last_choice {old} {mid} {new} {a} {b} {span} {kind} {e} ss us parts is h ya na g
                 ∙ and_intro (rows_end (map shapes_of a)) (other_ends (map shapes_of b)) first.1 second.ends;
             goes_on = ap is_over both ∙ not_over (map shapes_of h.rows) (map shapes_of (i ∷ [])) on;
           };
+      weight = λ ends. fork_at_end kind span (map pays_of ss) (map pays_of us) o pays other h.light (wa ends) (wb ends);
     }
 
 pub last_if_only : {old mid new a : List SlotInstr} {span : Span} {kind : StmtKind Slot Ty} {e : TypedExpr} {ss : List TypedStmt} → kind ≡ stmts.If e ss None
@@ -294,7 +309,10 @@ last_if_only {old} {mid} {new} {a} {span} {kind} {e} {ss} is h ya grown =
     let q = ya.does slots ok (and_left (last_of false (map may_end ss)) true (sym (ap may_end_kind is ∙ scoped.if_only_ends e ss) ∙ ends)) in
     let same : ya.rows ≡ a = sym ya.grown in
     (subst (λ l. IsBranch l (leave_all ss) slots) same (path_branch q), subst (λ l. rows_end (map shapes_of l) ≡ true) same q.ends))
-    (λ slots ok ends. no_branch slots) grown
+    (λ slots ok ends. no_branch slots) None (ap pays_at is ∙ pricing.if_only_pays e ss) refl
+    (λ ends. let same : ya.rows ≡ a = sym ya.grown in
+    subst (λ l. Within l (path_pays (map pays_of ss))) same (ya.weight (and_left (last_of false (map may_end ss)) true (sym (ap may_end_kind is ∙ scoped.if_only_ends e ss) ∙ ends))).within)
+    (λ ends. none_within) grown
 
 pub last_if_else : {old mid new a b : List SlotInstr} {span : Span} {kind : StmtKind Slot Ty} {e : TypedExpr} {ss us : List TypedStmt} → kind ≡ stmts.If e ss (Some us)
     → LowersElement old mid span e → LowersPath [] a ss → LowersPath [] b us → new ≡ mid ++ instruction (kinds.If a b) span span ∷ [] → LowersLastKind old new kind span
@@ -306,4 +324,8 @@ last_if_else {old} {mid} {new} {a} {b} {span} {kind} {e} {ss} {us} is h ya na gr
     (subst (λ l. IsBranch l (leave_all ss) slots) (sym ya.grown) (path_branch q), subst (λ l. rows_end (map shapes_of l) ≡ true) (sym ya.grown) q.ends))
     (λ slots ok ends.
     let q = na.does slots ok (and_right (last_of false (map may_end ss)) (last_of false (map may_end us)) (sym end ∙ ends)) in
-    subst (λ l. IsBranch l (leave_all us) slots) (sym na.grown) (path_branch q)) grown
+    subst (λ l. IsBranch l (leave_all us) slots) (sym na.grown) (path_branch q))
+    (Some (map pays_of us)) (ap pays_at is ∙ pricing.if_else_pays e ss us) refl
+    (λ ends. subst (λ l. Within l (path_pays (map pays_of ss))) (sym ya.grown) (ya.weight (and_left (last_of false (map may_end ss)) (last_of false (map may_end us)) (sym end ∙ ends))).within)
+    (λ ends. subst (λ l. Within l (path_pays (map pays_of us))) (sym na.grown) (na.weight (and_right (last_of false (map may_end ss)) (last_of false (map may_end us)) (sym end ∙ ends))).within)
+    grown

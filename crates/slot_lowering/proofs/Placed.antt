@@ -17,7 +17,7 @@ use Rattle.slot_code.specs.declared.slots.SlotKind.TheVariants as kinds
 use Rattle.slot_expressions.specs.declared.expressions.Width.TheVariants as widths
 use Rattle.slot_expressions.specs.Pieces.{LowersElement, LowersGiven, instruction}
 use Rattle.slot_expressions.proofs.Single.{and_left, and_right}
-use Rattle.slot_lowering.specs.Scoped.{may_end_kind, has_values, ReadyStmt, ReadyBody}
+use Rattle.slot_lowering.specs.Scoped.{may_end_kind, has_values, IsSplit, ReadyStmt, ReadyBody}
 use Rattle.slot_lowering.specs.Statements.{LowersKind, LowersRun, LowersLastKind, LowersPath, EndsNames, LowersKindAt, LowersStmtAt, LowersBodyAt, LowersBlockAt, GoesOn, LeftBody, names_of}
 use Rattle.slot_lowering.proofs.ScopedSteps as scoped
 use Rattle.slot_lowering.proofs.Simple.{lowers_define, lowers_pair, lowers_assign, lowers_time, lowers_age, lowers_require}
@@ -38,6 +38,7 @@ never_last {old} {new} {kind} {span} never h = record {
   rows = h.rows;
   grown = h.grown;
   does = λ slots ok ends. let both : false ≡ true = sym never ∙ ends in absurd cc;
+  weight = λ ends. let both : false ≡ true = sym never ∙ ends in absurd cc;
 }
 
 pub placed_define : {b : Bool} {old mid new : List SlotInstr} {span : Span} {kind : StmtKind Slot Ty} {t : Ty} {constant : Bool} {slot : Slot} {at : Span} {e : TypedExpr} → kind ≡ stmts.Define t constant slot at e
@@ -47,11 +48,11 @@ placed_define {b} {old} {mid} {new} {span} {kind} {t} {constant} {slot} {at} {e}
   last = λ b_is. never_last (ap may_end_kind is ∙ scoped.define_ends t constant slot at e) (lowers_define is h grown);
 }
 
-pub placed_pair : {b : Bool} {old mid new : List SlotInstr} {span : Span} {kind : StmtKind Slot Ty} {left right : Param Slot} {e : TypedExpr} → kind ≡ stmts.Pair left right e
+pub placed_pair : {b : Bool} {old mid new : List SlotInstr} {span : Span} {kind : StmtKind Slot Ty} {left right : Param Slot} {e : TypedExpr} → kind ≡ stmts.Pair left right e → IsSplit e
     → LowersGiven old mid span e widths.Two → new ≡ mid ++ instruction (kinds.DefinePair left.name right.name) span span ∷ [] → LowersKindAt b old new kind span
-placed_pair {b} {old} {mid} {new} {span} {kind} {left} {right} {e} is h grown = record {
-  inner = λ b_is. lowers_pair is h grown;
-  last = λ b_is. never_last (ap may_end_kind is ∙ scoped.pair_ends left right e) (lowers_pair is h grown);
+placed_pair {b} {old} {mid} {new} {span} {kind} {left} {right} {e} is split h grown = record {
+  inner = λ b_is. lowers_pair is split.is h grown;
+  last = λ b_is. never_last (ap may_end_kind is ∙ scoped.pair_ends left right e) (lowers_pair is split.is h grown);
 }
 
 pub placed_assign : {b : Bool} {old mid new : List SlotInstr} {span : Span} {kind : StmtKind Slot Ty} {slot : Slot} {e : TypedExpr} → kind ≡ stmts.Assign slot e
@@ -115,6 +116,7 @@ path_none now final same = record {
   rows = [];
   grown = sym same ∙ sym (append-nil now);
   does = λ slots ok ends. let never : false ≡ true = ends in absurd cc;
+  weight = λ ends. let never : false ≡ true = ends in absurd cc;
 }
 
 goes_on : (now final : List SlotInstr) (body : List TypedStmt) → GoesOn now final body → LowersPath now final body

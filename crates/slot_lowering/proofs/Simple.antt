@@ -35,7 +35,11 @@ use Rattle.slot_lowering.specs.Scoped.{Part, value_scoped, is_new, is_split, par
 use Rattle.slot_lowering.specs.Statements.{Holds, Distinct, Reaches, Does, LowersKind, place, leaves}
 use Rattle.slot_expressions.specs.declared.expressions.Width.TheVariants as widths
 use Rattle.slot_expressions.proofs.ReadySteps as ready
+use Rattle.slot_lowering.specs.Room.{pays_at}
+use Rattle.slot_lowering.specs.Weighed.{Inside}
 use Rattle.slot_lowering.proofs.ScopedSteps as scoped
+use Rattle.slot_lowering.proofs.PricingSteps as pricing
+use Rattle.slot_lowering.proofs.Weights.{paid_inside, light_parts}
 use Rattle.slot_expressions.proofs.Puts.{run_append, run_one}
 use Rattle.slot_expressions.proofs.Standing.{if_true, shape_append, row_shape, seen_now}
 use Rattle.slot_expressions.proofs.Single.{and_left, and_right, grown1}
@@ -176,6 +180,8 @@ lowers_define {old} {mid} {new} {span} {kind} {t} {constant} {slot} {at} {e} is 
           (work (then_shape (takes_all 1) (defines slot))) (steps.define_stands slot)
           (λ top outer seen there. stays (defined slot slots outer seen new_one))
           ready);
+      weight = paid_inside kind (kinds.Define slot) span (steps.define_weighs slot) (ap pays_at is ∙ pricing.define_pays t constant slot at e)
+          (λ n. record { names_are = refl; bytes = omega arith; ops = omega arith }) h.light;
     }
   where
     same_env : (a b : Env) (r : Result Env Failure) → r ≡ Ok a → r ≡ Ok b → a ≡ b
@@ -217,6 +223,8 @@ lowers_assign {old} {mid} {new} {span} {kind} {slot} {e} is h grown =
           (work (then_shape (takes_all 1) (assigns slot))) (steps.assign_stands slot)
           (λ top outer seen there. stays (if_true (has slot slots) (Some (place slots outer seen)) None known ∙ no_more slots outer seen))
           (and_left (value_scoped e slots) (has slot slots) both));
+      weight = paid_inside kind (kinds.Assign slot) span (steps.assign_weighs slot) (ap pays_at is ∙ pricing.assign_pays slot e)
+          (λ n. record { names_are = omega arith; bytes = omega arith; ops = omega arith }) h.light;
     }
 
 -- ---- checks
@@ -244,13 +252,14 @@ check_lowered : {old mid new : List SlotInstr} {span : Span} {kind : StmtKind Sl
     → ((world : World) (x : List ℕ) (env : Env) → act_of world (instruction row span span) (state (x ∷ []) env) ≡ (f world x env >>= λ after. Ok (state [] after)))
     → ((world : World) (env : Env) → kind_leaves world kind span env ≡ (element (value_of world env e) >>= λ x. f world x env))
     → ((world : World) (x : List ℕ) (env after : Env) → f world x env ≡ Ok after → env ≡ after)
-    → LowersElement old mid span e → new ≡ mid ++ instruction row span span ∷ [] → LowersKind old new kind span
-check_lowered {old} {mid} {new} {span} {kind} {e} row f parts shape acts is same h grown = record {
+    → (h : LowersElement old mid span e) → Inside (h.rows ++ instruction row span span ∷ []) (pays_at kind).names (pays_at kind).inner → new ≡ mid ++ instruction row span span ∷ [] → LowersKind old new kind span
+check_lowered {old} {mid} {new} {span} {kind} {e} row f parts shape acts is same h paid grown = record {
   rows = h.rows ++ instruction row span span ∷ [];
   grown = grown1 old h.rows (instruction row span span ∷ []) h.grown grown;
   does = λ slots ok.
       subst (λ (p : Part). Does (h.rows ++ instruction row span span ∷ []) (leaves kind span) slots p.names) (sym parts)
       (check_does row f (leaves kind span) slots shape acts is same h (sym (ap (λ (p : Part). p.scoped slots) parts) ∙ ok));
+  weight = paid;
 }
 
 pub lowers_time : {old mid new : List SlotInstr} {span : Span} {kind : StmtKind Slot Ty} {e : TypedExpr} → kind ≡ stmts.Time e
@@ -259,7 +268,8 @@ lowers_time {old} {mid} {new} {span} {kind} {e} is h grown =
     check_lowered kinds.Time (λ world x env. passed span (time_outcome world.context x) env) (ap part_of_kind is ∙ scoped.time_part e) steps.time_stands
     (λ world x env. row_done world kinds.Time span span _ (state (x ∷ []) env) (steps.time_done world))
     (λ world env. ap (λ k. kind_leaves world k span env) is ∙ source.time_leaves world e span env)
-    (λ world x env after done. passed_same span (time_outcome world.context x) env after done) h grown
+    (λ world x env after done. passed_same span (time_outcome world.context x) env after done) h
+    (paid_inside kind kinds.Time span steps.time_weighs (ap pays_at is ∙ pricing.time_pays e) (λ n. record { names_are = omega arith; bytes = omega arith; ops = omega arith }) h.light) grown
 
 pub lowers_age : {old mid new : List SlotInstr} {span : Span} {kind : StmtKind Slot Ty} {e : TypedExpr} → kind ≡ stmts.Age e
     → LowersElement old mid span e → new ≡ mid ++ instruction kinds.Age span span ∷ [] → LowersKind old new kind span
@@ -267,7 +277,8 @@ lowers_age {old} {mid} {new} {span} {kind} {e} is h grown =
     check_lowered kinds.Age (λ world x env. passed span (age_outcome world.context x) env) (ap part_of_kind is ∙ scoped.age_part e) steps.age_stands
     (λ world x env. row_done world kinds.Age span span _ (state (x ∷ []) env) (steps.age_done world))
     (λ world env. ap (λ k. kind_leaves world k span env) is ∙ source.age_leaves world e span env)
-    (λ world x env after done. passed_same span (age_outcome world.context x) env after done) h grown
+    (λ world x env after done. passed_same span (age_outcome world.context x) env after done) h
+    (paid_inside kind kinds.Age span steps.age_weighs (ap pays_at is ∙ pricing.age_pays e) (λ n. record { names_are = omega arith; bytes = omega arith; ops = omega arith }) h.light) grown
 
 pub lowers_require : {old mid new : List SlotInstr} {span : Span} {kind : StmtKind Slot Ty} {e : TypedExpr} → kind ≡ stmts.Require e
     → LowersElement old mid span e → new ≡ mid ++ instruction kinds.Require span span ∷ [] → LowersKind old new kind span
@@ -275,7 +286,8 @@ lowers_require {old} {mid} {new} {span} {kind} {e} is h grown =
     check_lowered kinds.Require (λ world x env. checked span x env) (ap part_of_kind is ∙ scoped.require_part e) steps.require_stands
     (λ world x env. row_done world kinds.Require span span _ (state (x ∷ []) env) (steps.require_done world))
     (λ world env. ap (λ k. kind_leaves world k span env) is ∙ source.require_leaves world e span env)
-    (λ world x env after done. checked_same (truth_of x) span env after done) h grown
+    (λ world x env after done. checked_same (truth_of x) span env after done) h
+    (paid_inside kind kinds.Require span steps.require_weighs (ap pays_at is ∙ pricing.require_pays e) (λ n. record { names_are = omega arith; bytes = omega arith; ops = omega arith }) h.light) grown
 
 -- ---- definitions of two names
 
@@ -302,9 +314,9 @@ two_leads {old} {mid} {checking} {e} h slots outer seen is =
     ∙ (t.stands slots ready).stands (place slots outer (seen_with checking seen)) refl (seen_now checking seen) (omega (arith, less, whole.whole_counted e))
     ∙ ap (λ l. Some (record { operands = l; slots = slots; outer = outer; seen = seen_with checking seen })) (append-nil t.tops)
 
-pub lowers_pair : {old mid new : List SlotInstr} {span : Span} {kind : StmtKind Slot Ty} {left right : Param Slot} {e : TypedExpr} → kind ≡ stmts.Pair left right e
+pub lowers_pair : {old mid new : List SlotInstr} {span : Span} {kind : StmtKind Slot Ty} {left right : Param Slot} {e : TypedExpr} → kind ≡ stmts.Pair left right e → is_split e ≡ true
     → LowersGiven old mid span e widths.Two → new ≡ mid ++ instruction (kinds.DefinePair left.name right.name) span span ∷ [] → LowersKind old new kind span
-lowers_pair {old} {mid} {new} {span} {kind} {left} {right} {e} is h grown =
+lowers_pair {old} {mid} {new} {span} {kind} {left} {right} {e} is split h grown =
     let l = left.name in
     let r = right.name in
     let t = h.lowered.lowered in
@@ -352,6 +364,8 @@ lowers_pair {old} {mid} {new} {span} {kind} {left} {right} {e} is h grown =
               kept = λ other there. seen_kept span other seen there;
             };
           });
+      weight = paid_inside kind (kinds.DefinePair l r) span (steps.define_pair_weighs l r) (ap pays_at is ∙ pricing.pair_pays left right e)
+          (λ n. record { names_are = refl; bytes = omega arith; ops = omega arith }) (light_parts (pricing.split_pays e split) t.light);
     }
   where
     neither : (b c : Bool) → (b || false) ≡ false → (c || false) ≡ false → (b || (c || false)) ≡ false

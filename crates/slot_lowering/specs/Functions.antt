@@ -1,5 +1,5 @@
 -- Which contracts are lowered, and what their functions become.
-use Rattle.std.specs.Prelude.{◌≡◌, ℕ, ◌+◌, ◌==◌, nat_le, Bool, true, ◌&&◌, List, [], ◌∷◌, ◌++◌, length, map, drop}
+use Rattle.std.specs.Prelude.{◌≡◌, ◌≤◌, ℕ, ◌+◌, ◌==◌, nat_le, Bool, true, ◌&&◌, List, [], ◌∷◌, ◌++◌, length, map, drop}
 use Rattle.std.specs.List.{list_all, AllZip}
 use Rattle.cash_base.specs.declared.place.Slot.{Slot}
 use Rattle.tx_context.specs.World.{World}
@@ -12,7 +12,9 @@ use Rattle.source_meaning.specs.Runnable.{all_of}
 use Rattle.slot_code.specs.declared.slots.SlotFunction.{SlotFunction}
 use Rattle.slot_code.specs.Meaning.{slot_outcome}
 use Rattle.slot_code.specs.Shape.{IsWellFormed, first_slots, most_slots}
+use Rattle.slot_code.specs.Weight.{weight_of}
 use Rattle.slot_lowering.specs.Scoped.{has_values, ends_rightly}
+use Rattle.slot_lowering.specs.Room.{function_price}
 use Rattle.slot_lowering.specs.Statements.{is_scoped}
 
 -- ---- the condition
@@ -54,10 +56,16 @@ pub record RunsAs (contract : Contract Slot Ty) (f : Function Slot Ty) (g : Slot
   pub runs : (ctor args : List (List ℕ)) (world : World) → length ctor ≡ length contract.params → length args ≡ length f.params
       → slot_outcome g ctor args world ≡ source_outcome contract ctor f args world
 
+-- The weights of its instructions sum up to at most the price of the function.
+pub record IsWeighed (contract : Contract Slot Ty) (f : Function Slot Ty) (g : SlotFunction) : Type 0 where
+  pub bytes : (weight_of g).bytes ≤ (function_price contract f).bytes
+  pub ops : (weight_of g).ops ≤ (function_price contract f).ops
+
 pub record IsLowered (contract : Contract Slot Ty) (f : Function Slot Ty) (g : SlotFunction) : Type 0 where
   pub counts : HasCounts contract f g
   pub shape : IsWellFormed g
   pub run : RunsAs contract f g
+  pub weight : IsWeighed contract f g
 
 -- the functions in order
 pub record AreLowered (contract : Contract Slot Ty) (functions : List (Function Slot Ty)) (lowered : List SlotFunction) : Type 0 where

@@ -1,3 +1,5 @@
 pub mod Scoped
+pub mod Room
+pub mod Weighed
 pub mod Statements
 pub mod Functions

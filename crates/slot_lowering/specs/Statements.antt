@@ -1,4 +1,4 @@
--- What the slot code of statements does: what stands in the slots behind it, and where the values stand.
+-- What the slot code of statements does: what stands in the slots behind it, where the values stand, and what it weighs.
 use Rattle.std.specs.Prelude.{◌≡◌, ℕ, Bool, true, false, is_some, List, [], ◌∷◌, ◌++◌, map, drop, Option, Some, Result, Ok, Err}
 use Rattle.cash_base.specs.declared.place.Span.{Span}
 use Rattle.cash_base.specs.declared.place.Slot.{Slot}
@@ -15,6 +15,8 @@ use Rattle.slot_code.specs.Meaning.{state, run_of}
 use Rattle.slot_code.specs.Shape.{Place, all_shapes, path_shape, is_over, ends_rightly as rows_end, other_ends as other_rows_end, shapes_of, has, has_span}
 use Rattle.slot_expressions.specs.Pieces.{instruction}
 use Rattle.slot_lowering.specs.Scoped.{part_of, part_of_kind, all_names, all_scoped, may_end, may_end_kind, ends_rightly, ReadyBody}
+use Rattle.slot_lowering.specs.Room.{all_pay, block_pays, path_pays, defined, pays_of, pays_at}
+use Rattle.slot_lowering.specs.Weighed.{Inside, AtEnd}
 
 -- exactly these slots have a value
 abbrev pub Holds : List Slot → Env → Type 0
@@ -64,17 +66,20 @@ pub record LowersKind (old new : List SlotInstr) (kind : StmtKind Slot Ty) (span
   pub rows : List SlotInstr
   pub grown : new ≡ old ++ rows
   pub does : (slots : List Slot) → (part_of_kind kind).scoped slots ≡ true → Does rows (leaves kind span) slots (part_of_kind kind).names
+  pub weight : Inside rows (pays_at kind).names (pays_at kind).inner
 
 pub record LowersStmt (old new : List SlotInstr) (s : Stmt Slot Ty) : Type 0 where
   pub rows : List SlotInstr
   pub grown : new ≡ old ++ rows
   pub does : (slots : List Slot) → (part_of s).scoped slots ≡ true → Does rows (λ world. env_after world s) slots (part_of s).names
+  pub weight : Inside rows (pays_of s).names (pays_of s).inner
 
 -- ... statements, one after the other
 pub record LowersRun (old new : List SlotInstr) (body : List (Stmt Slot Ty)) : Type 0 where
   pub rows : List SlotInstr
   pub grown : new ≡ old ++ rows
   pub does : (slots : List Slot) → is_scoped body slots ≡ true → Does rows (leave_all body) slots (names_of body)
+  pub weight : Inside rows (defined (map pays_of body)) (all_pay (map pays_of body))
 
 -- ---- blocks
 
@@ -101,6 +106,7 @@ pub record IsBlock (rows : List SlotInstr) (doing : World → Doing) (slots : Li
 
 pub record LowersBlock (code : List SlotInstr) (body : List (Stmt Slot Ty)) (checking : Span) : Type 0 where
   pub does : (slots : List Slot) → is_scoped body slots ≡ true → IsBlock code (leave_all body) slots checking
+  pub weight : Inside code 0 (block_pays (map pays_of body))
 
 -- ---- paths
 
@@ -121,11 +127,13 @@ pub record LowersLast (old new : List SlotInstr) (s : Stmt Slot Ty) : Type 0 whe
   pub rows : List SlotInstr
   pub grown : new ≡ old ++ rows
   pub does : (slots : List Slot) → (part_of s).scoped slots ≡ true → may_end s ≡ true → IsPath rows (λ world. env_after world s) slots
+  pub weight : may_end s ≡ true → AtEnd rows (pays_of s).last
 
 pub record LowersPath (old new : List SlotInstr) (body : List (Stmt Slot Ty)) : Type 0 where
   pub rows : List SlotInstr
   pub grown : new ≡ old ++ rows
   pub does : (slots : List Slot) → is_scoped body slots ≡ true → ends_rightly body ≡ true → IsPath rows (leave_all body) slots
+  pub weight : ends_rightly body ≡ true → AtEnd rows (path_pays (map pays_of body))
 
 -- ... and what stands for a missing `else`
 pub record IsBranch (rows : List SlotInstr) (doing : World → Doing) (slots : List Slot) : Type 0 where
@@ -137,6 +145,7 @@ pub record LowersLastKind (old new : List SlotInstr) (kind : StmtKind Slot Ty) (
   pub rows : List SlotInstr
   pub grown : new ≡ old ++ rows
   pub does : (slots : List Slot) → (part_of_kind kind).scoped slots ≡ true → may_end_kind kind ≡ true → IsPath rows (leaves kind span) slots
+  pub weight : may_end_kind kind ≡ true → AtEnd rows (pays_at kind).last
 
 -- ---- where a path may end
 
