@@ -1,0 +1,10 @@
+pub mod Same
+pub mod AtKinds
+pub mod Weighing
+pub mod Adding
+pub mod Instrs
+pub mod Operations
+pub mod Names
+pub mod Pairs
+pub mod Larger
+pub mod Stepped
