@@ -8,6 +8,7 @@ use Rattle.script_codec.specs.declared.instr.Instr.{Instr}
 use Rattle.script_codec.specs.declared.spans.Spanned.{Spanned}
 use Rattle.script_codec.specs.declared.spans.Marked.{Marked}
 use Rattle.script_codec.specs.Reading.{push}
+use Rattle.script_codec.specs.Names.{named_opcodes, is_named}
 use Rattle.script_codec.specs.Spelling.{is_instruction}
 use Rattle.opcode_table.specs.Table.{rows}
 use Rattle.bch_vm.specs.Law.{pushes_key_count, asks_for_keys, are_keys_known}
@@ -33,7 +34,7 @@ all_append P (row ∷ first) second a b =
     and_from (P row.instr) (all_of P (first ++ second)) parts.0 (all_append P first second parts.1 b)
 
 -- the selector's own instructions, piece by piece
-abbrev OwnOf : (Instr → Bool) → List Piece → Type 0
+abbrev pub OwnOf : (Instr → Bool) → List Piece → Type 0
 OwnOf P [] = Unit {0}
 OwnOf P (Own code ∷ pieces) = (all_of P code ≡ true) × OwnOf P pieces
 OwnOf P (Function function ∷ pieces) = OwnOf P pieces
@@ -108,6 +109,20 @@ all_chosen P h contract ctors functions pieces are in_order all =
 
 pub instructions_suit : Suits is_instruction
 instructions_suit = record {
+  pushes = λ e. refl;
+  raises = refl;
+  copies = refl;
+  compares = refl;
+  verifies = refl;
+  opens = refl;
+  drops = refl;
+  flips = refl;
+  closes = refl;
+}
+
+pub names_suit : Suits is_named
+unfolding named_opcodes
+names_suit = record {
   pushes = λ e. refl;
   raises = refl;
   copies = refl;
@@ -220,7 +235,7 @@ known_keyless before (row ∷ code) all =
 abbrev pub AllKnown : List Marked → Type 0
 AllKnown functions = AllByRecursion (λ function. are_keys_known false (instructions function.code.items) ≡ true) functions
 
-known_pieces : (pieces : List Piece) → OwnOf (λ instr. not (asks_for_keys instr)) pieces → AllKnown (functions_of pieces)
+pub known_pieces : (pieces : List Piece) → OwnOf (λ instr. not (asks_for_keys instr)) pieces → AllKnown (functions_of pieces)
     → are_known false (code_of pieces) ≡ true
 known_pieces [] o f = refl
 known_pieces (Own code ∷ pieces) o f = known_append false code (code_of pieces) (known_keyless false code o.0) (known_pieces pieces o.1 f)

@@ -21,6 +21,7 @@ use Rattle.bch_vm.specs.Script.{State, Progress, beginning, run, balanced, run_e
 use Rattle.run_laws.specs.Nested.{is_nested}
 use Rattle.run_laws.specs.Branches.{HasConditionsOf, past, ENDIF, two_arms}
 use Rattle.selector.specs.Pieces.{instructions, Piece, Own, Function, code_of, functions_of, own_of, marks_of, is_opcode}
+use Rattle.script_codec.specs.Names.{is_named, are_named}
 use Rattle.script_codec.specs.Spelling.{is_instruction, are_instructions}
 use Rattle.bch_vm.specs.Law.{are_keys_known}
 use Rattle.run_laws.specs.Underneath.{counts_elements, is_without_depth}
@@ -30,7 +31,7 @@ use Rattle.selector.specs.Selection.{AreNested, AreUnseparated, behind, StandsAt
 use Rattle.selector.proofs.Runs.{on, behind_behind, pushes, raises, raises_none, copies_none, push_step, roll_step, then_executes}
 use Rattle.selector.proofs.Shapes.{Laws, instrs_of, more_shape, choice_nested}
 use Rattle.selector.proofs.Chosen.{then_past, IsChosen, chosen, executed_entry}
-use Rattle.selector.proofs.Opcodes.{all_chosen, instructions_suit, separators_suit, depth_suits, lacking_suits, known_chosen}
+use Rattle.selector.proofs.Opcodes.{all_chosen, instructions_suit, names_suit, separators_suit, depth_suits, lacking_suits, known_chosen}
 use Rattle.selector.proofs.Alone.{of_each, start, ended, alone}
 use Rattle.selector.proofs.Refused.{FailsFrom, Refuses, IsNoNumber, no_number, IsOfNone, of_none}
 use Rattle.selector.proofs.ExecutedOwn.{AreOwnFrom, own_both, own_behind, own_in_front}
@@ -370,6 +371,8 @@ selects_pieces laws contract ctors functions code nested plain several few low w
           (all_chosen (λ instr. not (counts_elements instr)) depth_suits contract ctors functions pieces refl in_order all);
       spelled = λ all. subst (λ code. are_instructions (instructions code) ≡ true) back
           (all_chosen is_instruction instructions_suit contract ctors functions pieces refl in_order all);
+      named = λ all. subst (λ code. are_named (instructions code) ≡ true) back
+          (all_chosen is_named names_suit contract ctors functions pieces refl in_order all);
       keys = λ all. subst (λ code. are_keys_known false (instructions code) ≡ true) back
           (known_chosen contract ctors functions pieces refl in_order all);
       chosen = λ at within. subst (λ code. Chooses contract ctors code (pieces_of contract ctors functions) at) back

@@ -11,6 +11,7 @@ use Rattle.tx_context.specs.World.{World}
 use Rattle.script_codec.specs.declared.instr.Instr.{Instr}
 use Rattle.script_codec.specs.declared.spans.Spanned.{Spanned}
 use Rattle.script_codec.specs.declared.spans.Marked.{Marked}
+use Rattle.script_codec.specs.Names.{are_named}
 use Rattle.script_codec.specs.Spelling.{are_instructions, spellings}
 use Rattle.opcode_table.specs.Stack.{Stack}
 use Rattle.bch_vm.specs.Setting.{Setting, setting_in}
@@ -165,6 +166,8 @@ pub record Selects (functions : List Marked) (ctors : ℕ) (contract : Span) (co
   pub shallow : Keeps is_without_depth functions code
   -- opcodes above 60 (hexadecimal) alone, and each check of several signatures behind the push of its number of keys
   pub spelled : Keeps are_instructions functions code
+  -- and opcodes with a name alone
+  pub named : Keeps are_named functions code
   pub keys : Keeps (are_keys_known false) functions code
   -- what is run
   pub chosen : (at : ℕ) → at < length functions → Chooses contract ctors code.code.items pieces at

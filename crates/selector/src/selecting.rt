@@ -28,7 +28,8 @@ use std::alloc::Global;
 /// Each function's code stands in the answer in one piece, in the order of the functions, and its marks with it, at the same
 /// instructions and with the same heights. The other instructions have the contract's place as both spans. They add at most 15
 /// bytes and 7 counted opcodes for each function, and none of them is DEPTH, TOALTSTACK, FROMALTSTACK, CODESEPARATOR,
-/// CHECKMULTISIG or CHECKMULTISIGVERIFY. The answer is nested.
+/// CHECKMULTISIG or CHECKMULTISIGVERIFY. The answer is nested. Where each opcode of the functions has a name, so has each of
+/// the answer.
 ///
 /// # Errors
 ///

@@ -1,0 +1,14 @@
+pub mod ChoicePlaces
+pub mod Blocks
+pub mod Arms
+pub mod Chosen
+pub mod Joins
+pub mod PathEndings
+pub mod Ways
+pub mod Inverse
+pub mod Lasts
+pub mod Forks
+pub mod Beginning
+pub mod Taken
+pub mod Smaller
+pub mod Keys

@@ -1,0 +1,36 @@
+use Rattle.std.proofs.Common.{sym, subst, ap, ◌∙◌}
+use Rattle.std.specs.Global.{Vec}
+use Rattle.script_codec.specs.declared.spans.Spanned.{Spanned}
+use Rattle.script_codec.specs.declared.spans.Mark.{Mark}
+use Rattle.stack_steps.specs.Lower.{statements_of}
+use Rattle.stack_schedule.specs.Schedule.{Decides, EndsItsPath, EndsOnItsOwn, HasForm, CountsKeys}
+use Rattle.stack_schedule.proofs.Beginning.{starts_as, schedule_decides, schedule_ends, schedule_own, schedule_form, schedule_statements, starts_known}
+use Rattle.stack_schedule.proofs.whole.schedule.Goals as goal
+
+pub lower_tail-requires : goal.lower_tail-requires
+lower_tail-requires c =
+    starts_as c.args.function.now c.args.start.now _ c.requires.formed c.requires.holds c.in_ok-low.ensures c.as_slice-body.result.now _ c.as_slice-body.ensures c.new-none.ensures
+
+pub returns-clause-decides : goal.returns-clause-decides
+returns-clause-decides c =
+    subst (λ (code : Vec Spanned). Decides c.args.function.now c.args.start.now code.items) (sym c.marked_of-marked.ensures.code) (schedule_decides c.args.function.now c.args.start.now c.in_ok-low.low c.lower_tail.new.low c.requires.formed c.requires.holds c.in_ok-low.ensures c.as_slice-body.result.now _ c.as_slice-body.ensures c.new-none.ensures c.in_ok-lower_tail.ensures.finishes c.rows_run_as_code.ensures)
+
+pub returns-clause-ends : goal.returns-clause-ends
+returns-clause-ends c =
+    subst (λ (code : Vec Spanned). EndsItsPath c.args.function.now c.args.start.now code.items) (sym c.marked_of-marked.ensures.code) (schedule_ends c.args.function.now c.args.start.now c.in_ok-low.low c.lower_tail.new.low c.requires.formed c.requires.holds c.in_ok-low.ensures c.as_slice-body.result.now _ c.as_slice-body.ensures c.new-none.ensures c.in_ok-lower_tail.ensures.finishes c.rows_run_as_code.ensures)
+
+pub returns-clause-own : goal.returns-clause-own
+returns-clause-own c =
+    subst (λ (code : Vec Spanned). EndsOnItsOwn c.args.start.now code.items) (sym c.marked_of-marked.ensures.code) (schedule_own c.args.function.now c.args.start.now c.in_ok-low.low c.lower_tail.new.low c.requires.formed c.requires.holds c.in_ok-low.ensures c.as_slice-body.result.now _ c.as_slice-body.ensures c.new-none.ensures c.in_ok-lower_tail.ensures.finishes c.rows_run_as_code.ensures)
+
+pub returns-clause-form : goal.returns-clause-form
+returns-clause-form c =
+    subst (λ (code : Vec Spanned). HasForm code.items) (sym c.marked_of-marked.ensures.code) (schedule_form c.args.function.now c.args.start.now c.in_ok-low.low c.lower_tail.new.low c.requires.formed c.requires.holds c.in_ok-low.ensures c.as_slice-body.result.now _ c.as_slice-body.ensures c.new-none.ensures c.in_ok-lower_tail.ensures.finishes c.rows_run_as_code.ensures)
+
+pub returns-clause-statements : goal.returns-clause-statements
+returns-clause-statements c =
+    ap (λ (marks : Vec Mark). statements_of marks.items) c.marked_of-marked.ensures.marks ∙ schedule_statements c.args.function.now c.args.start.now c.in_ok-low.low c.lower_tail.new.low c.requires.formed c.requires.holds c.in_ok-low.ensures c.as_slice-body.result.now _ c.as_slice-body.ensures c.new-none.ensures c.in_ok-lower_tail.ensures.finishes c.rows_run_as_code.ensures
+
+pub returns-clause-keys : goal.returns-clause-keys
+returns-clause-keys c =
+    subst (λ (code : Vec Spanned). CountsKeys code.items) (sym c.marked_of-marked.ensures.code) (c.in_ok-lower_tail.ensures.keys (starts_known c.args.function.now c.args.start.now _ c.in_ok-low.ensures))
