@@ -53,6 +53,7 @@ use Rattle.form_tables.specs.Forms.{is_int_layer, is_int}
 use Rattle.cash_compile.specs.Form.{are_ints}
 use Rattle.artifact_json.specs.Types.{is_named_layer, is_named_type}
 use Rattle.artifact_json.specs.Artifact.{Artifact, AbiParam, AbiCall, have_named_types, take_named_types, is_spelled, HasFewInputs}
+use Rattle.source_stages.specs.Stages as stages
 use Rattle.cash_compile.specs.Compile.{IsAccepted}
 use Rattle.cash_compile.specs.Describes.{described_param, described_function, lossy_at, DescribesBy, Describes}
 use Rattle.script_codec.proofs.Sizes.{push_size}
@@ -61,7 +62,6 @@ use Rattle.cash_parser.specs.Names.{ParamsHave, FunctionHas, NamesHave, IsTextAt
 use Rattle.cash_base.specs.declared.place.Span.{Span}
 use Rattle.cash_compile.proofs.Decided.{named_spelled}
 use Rattle.cash_compile.proofs.FormShape.{IsEquality}
-use Rattle.cash_compile.proofs.Words.{Laws, names_are_texts}
 use Rattle.cash_compile.specs.Runs.{AgreesAlone, FailsOrEndsFalse, EndsAs, DecidesByRun, AgreesByRun}
 use Rattle.unlocker.specs.Scripts.{handed_in, spending_script, redeem_script}
 use Rattle.cash_compile.specs.Correct.{IsSameCause, Agrees, spending_context, spending_world, SpendsAgree, Decides, is_limit, is_limited, MeetsNoLimit, IsCorrect}
@@ -360,16 +360,20 @@ described source contract program rows words h = record {
   inside = h.inside;
 }
 
-pub program_correct : (law : Law) (laws : Laws) (end : reading [] ≡ [])
+-- the names of the contract of each accepted source have texts
+abbrev pub NamesAreTexts : Type 0
+NamesAreTexts = (source : List ℕ) (contract : Contract Slot Ty) → stages.IsAccepted source contract → NamesHave (IsTextAt source) contract
+
+pub program_correct : (law : Law) (texts : NamesAreTexts) (end : reading [] ≡ [])
     (front : (code : List Instr) (rest : List ℕ) → IsTrue (are_instructions code) → reading (spellings code ++ rest) ≡ map (λ instr. Whole (spelled instr)) code ++ reading rest)
     (meant : (instr : Instr) → IsTrue (is_instruction instr) → (instruction (spelled instr) ≡ instr) × IsTrue (is_minimal (spelled instr)) × (size_of (spelled instr) ≡ length (spelling instr)))
     (source : List ℕ) (contract : Contract Slot Ty) (rows : List Spanned) (program : Artifact) → IsAccepted source contract → AgreesByRun contract rows → AreFew rows
     → program.code ≡ instructions rows → DescribesBy (lossy_at source) source contract program (map places rows) → IsCorrect source contract program
-program_correct law laws end front meant source contract rows program accepted h few code describes =
+program_correct law texts end front meant source contract rows program accepted h few code describes =
     let reads : Reads = record { end = end; front = front; meant = λ instr is. (meant instr is).0 } in
     record {
       rows = map places rows;
-      describes = described source contract program (map places rows) (names_are_texts laws source contract accepted) describes;
+      describes = described source contract program (map places rows) (texts source contract accepted.typed) describes;
       spelled = subst (λ (c : List Instr). IsTrue (are_instructions c)) (sym code) h.spelled;
       agrees = subst (λ (c : List Instr). SpendsAgree contract c (map places rows)) (sym code) (spends_agree law reads contract rows h few);
     }

@@ -9,4 +9,3 @@ pub mod Rows
 pub mod Sizes
 pub mod Slots
 pub mod Ways
-pub mod Words

@@ -24,15 +24,12 @@ use crate::reading::typed_contract_of;
 use crate::refusal::Refusal;
 use artifact_json::Program;
 use cash_base::Memory;
-use cash_lexer::words_have_texts;
-use cash_names::one_answer;
-use cash_parser::{names_have_texts, one_tree};
 use cash_tree::TypedContract;
 use script_codec::Spanned;
 use script_codec::laws::{meaning_of_spelled, reading_after_encoded, reading_in_turn};
+use source_stages::accepted_contracts;
 use spend_laws::laws::spend_is_decided;
 use std::alloc::Global;
-use type_check::judged_once;
 
 /// A contract and its program.
 #[derive(Drop)]
@@ -90,9 +87,7 @@ fn correct_program(
     ensures updated { IfOk result (λ program. program.updated ≡ updated.now) }
     ensures few { IfOk result (λ program. HasFewInputs program) }
 {
-    words_have_texts();
-    names_have_texts();
-    judged_once();
+    accepted_contracts();
     spend_is_decided();
     reading_in_turn();
     reading_after_encoded();
@@ -124,9 +119,7 @@ pub fn one_contract()
     ensures { (source : List ℕ) (a b : CashContract Slot Ty) →
         IsAccepted source a → IsAccepted source b → a ≡ b }
 {
-    one_tree();
-    one_answer();
-    judged_once();
+    source_stages::one_contract();
 }
 
 /// Each list of bytes is accepted or refused, and not both; and it is refused in one way only, but for the token that a
@@ -139,7 +132,6 @@ pub fn one_way()
     ensures one_refusal { (source : List ℕ) (a b : Cause) →
         IsRefused source a → IsRefused source b → AreSame a b }
 {
-    one_tree();
-    one_answer();
-    judged_once();
+    source_stages::one_contract();
+    source_stages::one_way();
 }

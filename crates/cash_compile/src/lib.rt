@@ -9,5 +9,5 @@ mod form;
 pub mod reading;
 pub mod refusal;
 
-pub use reading::MAX_SOURCE_LEN;
 pub use refusal::Refusal;
+pub use source_stages::MAX_SOURCE_LEN;

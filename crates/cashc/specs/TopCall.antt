@@ -31,7 +31,8 @@ use Rattle.spend_debug.specs.declared.report.InputStop.{InputStop}
 use Rattle.spend_debug.specs.declared.report.InputStop.TheVariants.{WrongCount}
 use Rattle.spend_debug.specs.Telling.{lines_with, failure_line, line_stop, input_line}
 use Rattle.cash_compile.specs.declared.refusal.Refusal.{Refusal}
-use Rattle.cash_compile.specs.Compile.{max_source_len, IsAccepted, IsCompiled, IsRefused}
+use Rattle.cash_compile.specs.Compile.{IsAccepted, IsCompiled, IsRefused}
+use Rattle.source_stages.specs.Stages.{max_source_len}
 use Rattle.cash_compile.specs.Correct.{Admits, spending_context, spending_world}
 use Rattle.cashc.specs.RefusalText.{source_too_long, refusal_text}
 

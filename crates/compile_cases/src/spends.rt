@@ -3,7 +3,7 @@
 ghost use Rattle.std.specs.Prelude.{◌≤◌, length, IfOk};
 ghost use Rattle.artifact_json.specs.Artifact.{HasFewInputs};
 ghost use Rattle.source_meaning.specs.Runnable.{CanRun};
-ghost use Rattle.cash_compile.specs.Compile.{max_source_len};
+ghost use Rattle.source_stages.specs.Stages.{max_source_len};
 
 use artifact_json::Program;
 use bch_vm::{Machine, MachineOutcome};

@@ -18,7 +18,7 @@ use Rattle.tx_context.specs.Bytes.{are_bytes}
 use Rattle.tx_context.proofs.Bytes.{test-from_IsBytes}
 use Rattle.type_tables.specs.Tables.{is_single, is_single_layer}
 use Rattle.cash_symbols.specs.Words.{is_text, type_of, bytes_of, size_of, is_keyword}
-use Rattle.cash_symbols.specs.Lexemes.{Symbol, Mark, Type_, Name, Number, Hex, Text, Date, Version, Lexeme, unescaped, between_quotes, is_escapable, hex_bytes, word_symbol, symbol_of, symbol_at, lexemes}
+use Rattle.cash_symbols.specs.Lexemes.{Symbol, Mark, Type_, Name, Hex, Text, Lexeme, unescaped, between_quotes, is_escapable, hex_bytes, word_symbol, symbol_of, symbol_at, lexemes}
 
 abbrev pub is_plain : Symbol → Bool
 is_plain (Type_ ty) = is_single ty
@@ -26,8 +26,11 @@ is_plain (Hex (Some bytes)) = are_bytes bytes
 is_plain (Text bytes) = are_bytes bytes
 is_plain _ = true
 
+abbrev pub IsPlainSymbol : Symbol → Type 0
+IsPlainSymbol symbol = is_plain symbol ≡ true
+
 abbrev pub ArePlain : List Lexeme → Type 0
-ArePlain ts = AllByRecursion (λ t. is_plain t.symbol ≡ true) ts
+ArePlain ts = AllByRecursion (λ (t : Lexeme). IsPlainSymbol t.symbol) ts
 
 -- ---- types
 

@@ -1,4 +1,3 @@
-use Rattle.cash_compile.proofs.Words.{Laws}
 use Rattle.cash_compile.specs.Describes.{lossy_at}
 use Rattle.cash_compile.proofs.FormShape.{form_is}
 use Rattle.cash_compile.proofs.Correct.{form_spelled, program_correct, decides, few_inputs}
@@ -22,9 +21,8 @@ returns c =
     let program = c.in_ok-program.program in
     let rows = c.args.rows.items in
     let few = c.requires.few in
-    let laws : Laws = record { words = c.words_have_texts.ensures; names = c.names_have_texts.ensures; judged = c.judged_once.ensures } in
     record {
-      correct = program_correct c.spend_is_decided.ensures laws c.reading_in_turn.ensures.end c.reading_after_encoded.ensures c.meaning_of_spelled.ensures
+      correct = program_correct c.spend_is_decided.ensures c.accepted_contracts.ensures.texts c.reading_in_turn.ensures.end c.reading_after_encoded.ensures c.meaning_of_spelled.ensures
           c.args.source.now c.args.contract.now rows program c.requires.accepted c.requires.agrees few made.code made.describes;
       decides = subst (λ (code : List Instr). DecidesByRun c.args.contract.now code) (sym made.code) (decides c.args.contract.now rows c.requires.agrees);
       fits = subst (λ (code : List Instr). length (spellings code) ≤ 520) (sym made.code) few.size;

@@ -3,5 +3,6 @@ use Rattle.cash_compile.proofs.compile.one_way.Goals as goal
 
 pub returns : goal.returns
 returns c =
-    let laws : Laws = record { tree = c.one_tree.ensures.one; spelled = c.one_tree.ensures.either; named = c.one_answer.ensures.one; either = c.one_answer.ensures.either; apart = c.one_answer.ensures.apart; judged = c.judged_once.ensures } in
+    let way = c.one_way.ensures in
+    let laws : Laws = record { one = c.one_contract.ensures; either = way.either; never_both = way.never_both; one_fault = way.one_fault } in
     record { either = decided_is laws; never_both = never_both_are laws; one_refusal = one_refusal_is laws }

@@ -19,11 +19,11 @@ use Rattle.cash_names.specs.Scopes.{NamesParams, NamesFunctions, IsNamed}
 use Rattle.type_check.specs.Outline.{TypedFunction, TypedContract}
 use Rattle.type_check.specs.Untyped.{untyped_function, untyped_contract}
 use Rattle.type_check.specs.Answer.{JudgedOnce}
-use Rattle.cash_compile.specs.Compile.{IsAccepted}
+use Rattle.source_stages.specs.Stages.{IsAccepted}
 
 -- ---- slots leave the places of names as they are
 
-params_named : (P : Span → Type 0) {source : List ℕ} {names after : Names} {ps : List (Param Span)} {qs : List (Param Slot)} → NamesParams source names ps qs after → ParamsHave P ps → (ParamsHave P qs)
+params_named : (P : Span → Type 0) {source : List ℕ} {names after : Names} {ps : List (Param Span)} {qs : List (Param Slot)} → NamesParams source names ps qs after → ParamsHave P ps → ParamsHave P qs
 params_named P (scopes.no_param names) all = tt
 params_named P (scopes.next_param names after p ps qs new rest) all = (all.0, params_named P rest all.1)
 
@@ -57,9 +57,9 @@ pub record Laws : Type 0 where
 
 pub names_are_texts : (laws : Laws) (source : List ℕ) (c : Contract Slot Ty) → IsAccepted source c → NamesHave (IsTextAt source) c
 names_are_texts laws source c accepted =
-    let named = accepted.typed.resolved in
+    let named = accepted.resolved in
     let tree = named.parsed in
     let texts = laws.words source tree.tokens tree.cut.found in
-    let kept = (laws.judged accepted.typed.named).kept c accepted.typed.types.0 in
+    let kept = (laws.judged accepted.named).kept c accepted.types.0 in
     let all = tree_named (IsTextAt source) named.names (laws.names source tree.tokens named.tree tree.spelled texts) in
     contract_typed (IsTextAt source) c (subst (λ (t : NamedTree). NamesHave (IsTextAt source) t) (sym kept) all)

@@ -1,0 +1,4 @@
+mod Counts
+mod Inside
+mod Ways
+mod Words
