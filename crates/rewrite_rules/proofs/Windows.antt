@@ -1,6 +1,6 @@
 -- Windows as rows: what the code finds is what the table says.
-use Rattle.std.proofs.Common.{◌≡◌, ℕ, zero, suc, ◌<◌, true, List, [], ◌∷◌, length, map, get_or, refl, sym, ap, ◌∙◌, subst, arith}
-use Rattle.std.specs.List.{All, list_all}
+use Rattle.std.proofs.Common.{◌≡◌, ℕ, zero, suc, ◌<◌, List, [], ◌∷◌, length, map, get_or, refl, sym, ap, ◌∙◌, subst, arith}
+use Rattle.std.specs.List.{All}
 use Rattle.std.proofs.lemmas.List.Elements.{All-head, All-tail, All-nil, All-cons}
 use Rattle.std.proofs.Math.ListN.{length-map}
 use Rattle.cash_base.specs.declared.place.Span.{Span}
@@ -10,7 +10,7 @@ use Rattle.script_codec.specs.declared.instr.Opcode.{Opcode}
 use Rattle.script_codec.specs.declared.spans.Spanned.{Spanned}
 use Rattle.row_runs.specs.Rows.{instructions}
 use Rattle.rewrite_rules.specs.Rows.{row}
-use Rattle.rewrite_rules.specs.Rules.{Rule, rule, VERIFY, rows_of, window_of, replacement_of, Matches, Rewrites}
+use Rattle.rewrite_rules.specs.Rules.{Rule, rule, VERIFY, rows_of, replacement_of, Matches, Rewrites}
 
 -- the doing span of each row, and the checking span past the end
 abbrev doing_at : List Spanned → Span → ℕ → Span

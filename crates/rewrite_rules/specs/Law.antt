@@ -1,5 +1,5 @@
 -- The law of a rule.
-use Rattle.std.specs.Prelude.{◌≡◌, ◌==◌, ℕ, ◌<◌, ◌≤◌, nat_lt, nat_le, Bool, true, false, not, ◌&&◌, ◌||◌, IsTrue, List, [], ◌∷◌, length}
+use Rattle.std.specs.Prelude.{◌≡◌, ◌==◌, ℕ, ◌+◌, ◌<◌, ◌≤◌, nat_lt, nat_le, Bool, true, false, not, ◌&&◌, ◌||◌, IsTrue, List, [], ◌∷◌, length}
 use Rattle.std.specs.List.{list_all, list_any}
 use Rattle.cash_base.specs.declared.place.Span.{Span}
 use Rattle.tx_context.specs.World.{World}
@@ -7,9 +7,7 @@ use Rattle.script_codec.specs.declared.instr.Instr.{Instr}
 use Rattle.script_codec.specs.declared.instr.Instr.TheVariants.{Push, Do}
 use Rattle.script_codec.specs.declared.spans.Spanned.{Spanned}
 use Rattle.script_codec.specs.Spelling.{spellings}
-use Rattle.opcode_table.specs.declared.rows.Row.{Row}
-use Rattle.opcode_table.specs.declared.rows.Row.TheVariants.{Separates}
-use Rattle.opcode_table.specs.Table.{row_of}
+use Rattle.script_codec.specs.Counting.{weight}
 use Rattle.bch_vm.specs.Board.{Board, is_live}
 use Rattle.bch_vm.specs.Law.{asks_for_keys}
 use Rattle.run_laws.specs.Underneath.{counts_elements}
@@ -22,20 +20,11 @@ use Rattle.rewrite_rules.specs.Rules.{Rule, window_of, replacement_of}
 abbrev pub outer_opcodes : List ℕ
 outer_opcodes = 0x74 ∷ 0x6b ∷ 0x6c ∷ 0xab ∷ []
 
-abbrev pub row_separates : Row → Bool
-row_separates Separates = true
-row_separates _ = false
-
--- CODESEPARATOR alone changes where the active bytecode begins
-abbrev pub separates : Instr → Bool
-separates (Push e) = false
-separates (Do opcode) = row_separates (row_of opcode.0)
-
--- an opcode that is no push, and none of these
+-- a plain opcode that is no push, and none of these
 abbrev pub may_be_added : Instr → Bool
 may_be_added (Push e) = false
 may_be_added (Do opcode) =
-    nat_lt 0x60 opcode.0 && not (list_any (λ other. opcode.0 == other) outer_opcodes) && not (separates (Do opcode))
+    nat_lt 0x60 opcode.0 && not (list_any (λ other. opcode.0 == other) outer_opcodes) && is_plain (Do opcode)
     && not (counts_elements (Do opcode))
 
 -- A check of several signatures is in the place of one that stood first in the window.
@@ -44,6 +33,12 @@ keeps_checks (instr ∷ before) [] = true
 keeps_checks (instr ∷ before) (by ∷ []) = not (asks_for_keys by) || asks_for_keys instr
 keeps_checks _ _ = false
 
+-- the opcodes above 60, which count against the limit of a script
+abbrev pub opcodes_in : List Instr → ℕ
+opcodes_in [] = 0
+opcodes_in (Push e ∷ code) = opcodes_in code
+opcodes_in (Do opcode ∷ code) = weight opcode.0 + opcodes_in code
+
 -- the last is no push
 abbrev pub ends_in_opcode : List Instr → Bool
 ends_in_opcode [] = false
@@ -51,13 +46,14 @@ ends_in_opcode (Push e ∷ []) = false
 ends_in_opcode (Do opcode ∷ []) = true
 ends_in_opcode (instr ∷ more) = ends_in_opcode more
 
--- A window of this width of plain instructions, and a replacement that is shorter, by at most one opcode, and has no more bytes.
+-- A window of this width of plain instructions, of which the last is no push, and in its place fewer: nothing, or an opcode. It
+-- has no more bytes and no more counted opcodes.
 abbrev pub has_shape : ℕ → Rule → Bool
 has_shape width r =
     length r.before == width && nat_lt (length r.after) width && nat_le (length r.after) 1 && nat_lt r.place width
     && list_all is_plain r.before && list_all is_plain r.after && list_all may_be_added r.after
-    && nat_le (length (spellings r.after)) (length (spellings r.before)) && keeps_checks r.before r.after
-    && ends_in_opcode r.before
+    && nat_le (length (spellings r.after)) (length (spellings r.before)) && nat_le (opcodes_in r.after) (opcodes_in r.before)
+    && keeps_checks r.before r.after && ends_in_opcode r.before
 
 -- ---- the law
 

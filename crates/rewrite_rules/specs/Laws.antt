@@ -1,6 +1,6 @@
 -- The law of each rule, by cases on the stack.
-use Rattle.std.proofs.Common.{◌≡◌, ℕ, zero, suc, ◌<◌, ◌≤◌, nat_lt, cond, not, ◌&&◌, ◌||◌, Bool, true, false, IsTrue, List, [], ◌∷◌, ◌++◌, length, map, reverse, ℤ, ◌+ℤ◌, ◌*ℤ◌, Option, Some, None, Result, Ok, Err, inl, inr, refl, sym, ap, ◌∙◌, subst, arith}
-use Rattle.std.specs.Prelude.{◌==◌, bit_and, bit_or, bit_xor, if◌then◌else◌}
+use Rattle.std.proofs.Common.{◌≡◌, ℕ, zero, suc, ◌<◌, ◌≤◌, cond, not, ◌&&◌, ◌||◌, Bool, true, false, IsTrue, List, [], ◌∷◌, ◌++◌, length, map, reverse, ℤ, ◌+ℤ◌, ◌*ℤ◌, Option, Some, None, Result, Ok, Err, refl, sym, ap, ◌∙◌, arith}
+use Rattle.std.specs.Prelude.{◌==◌, bit_and, bit_or, bit_xor}
 use Rattle.std.specs.List.{list_all}
 use Rattle.std.specs.Int.{int_min, int_max}
 use Rattle.std.specs.Ordering.{int_eq}
@@ -38,7 +38,7 @@ use Rattle.rewrite_rules.specs.declared.rules.SecondHash.{SecondHash}
 use Rattle.row_runs.specs.Rows.{instructions, Fault}
 use Rattle.rewrite_rules.specs.Rows.{row, is_plain, told, underflows}
 use Rattle.rewrite_rules.specs.Effects.{asked_in, effects, on, live_run}
-use Rattle.rewrite_rules.specs.Rules.{Rule, rows_of, window_of, replacement_of, VERIFY, EQUAL, EQUALVERIFY, NUMEQUAL, NUMEQUALVERIFY, NUMNOTEQUAL, NOT, CHECKSIG, CHECKSIGVERIFY, CHECKDATASIG, CHECKDATASIGVERIFY, CHECKMULTISIG, CHECKMULTISIGVERIFY, commuting, pick_top, pick_second, roll_top, roll_second, roll_third, swap_twice, rot_three_times, dup_swap, dup_drop, over_drop, swap_drop, swap_over, drop_twice, over_twice, swap_then, equal_verify, num_equal_verify, check_sig_verify, check_data_sig_verify, check_multi_sig_verify, num_equal_not, one_then, sha256_then}
+use Rattle.rewrite_rules.specs.Rules.{Rule, rows_of, window_of, replacement_of, VERIFY, EQUALVERIFY, NUMEQUAL, NUMEQUALVERIFY, NUMNOTEQUAL, NOT, CHECKSIG, CHECKSIGVERIFY, CHECKDATASIG, CHECKDATASIGVERIFY, CHECKMULTISIG, CHECKMULTISIGVERIFY, commuting, pick_top, pick_second, roll_top, roll_second, roll_third, swap_twice, rot_three_times, dup_swap, dup_drop, over_drop, swap_drop, swap_over, drop_twice, over_twice, swap_then, equal_verify, num_equal_verify, check_sig_verify, check_data_sig_verify, check_multi_sig_verify, num_equal_not, one_then, sha256_then}
 use Rattle.rewrite_rules.specs.Law.{has_shape, Holds}
 
 -- ---- from effects on stacks to the law
@@ -80,7 +80,7 @@ still_underflows : (b : Board) (r : Result Stack Fault) → underflows r ≡ tru
 still_underflows b (Ok s) u = cc
 still_underflows b (Err f) u = u
 
-plain_rows : (instrs : List Instr) (places : ℕ → Span) (checking : Span) → list_all is_plain instrs ≡ true
+pub plain_rows : (instrs : List Instr) (places : ℕ → Span) (checking : Span) → list_all is_plain instrs ≡ true
     → list_all is_plain (instructions (rows_of instrs places checking)) ≡ true
 plain_rows [] places checking p = refl
 plain_rows (i ∷ instrs) places checking p =
@@ -88,7 +88,7 @@ plain_rows (i ∷ instrs) places checking p =
     and_from (is_plain i) (list_all is_plain (instructions (rows_of instrs (λ k. places (suc k)) checking))) q.0
     (plain_rows instrs (λ k. places (suc k)) checking q.1)
 
-plain_replaced : (instrs : List Instr) (place checking : Span) → list_all is_plain instrs ≡ true
+pub plain_replaced : (instrs : List Instr) (place checking : Span) → list_all is_plain instrs ≡ true
     → list_all is_plain (instructions (map (λ instr. row checking instr place) instrs)) ≡ true
 plain_replaced [] place checking p = refl
 plain_replaced (i ∷ instrs) place checking p =

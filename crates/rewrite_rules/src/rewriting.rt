@@ -44,7 +44,9 @@ pub trait Rewrite {
 
 /// What a rule puts in place of a window, with its law as a clause.
 pub fn replacement_by<R: Rewrite>(rule: &R, window: &[Spanned]) -> Option<Replacement>
-    ensures { IfSome result (λ r. RunsAlike R.LEAST window.now (option_to_list r.code)) }
+    ensures alike { IfSome result (λ r. RunsAlike R.LEAST window.now (option_to_list r.code)) }
+    ensures found { IfSome result (λ r. Rewrites (R.rule rule.now) window.now (option_to_list r.code)) }
+    ensures none { result ≡ None → Matches (R.rule rule.now) window.now → ⊥ }
 {
     rule.rewrite(window)
 }

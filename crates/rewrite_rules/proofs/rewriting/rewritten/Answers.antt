@@ -1,4 +1,4 @@
-use Rattle.std.proofs.Common.{◌≡◌, true, map}
+use Rattle.std.proofs.Common.{◌≡◌, true}
 use Rattle.rewrite_rules.specs.Fitting.{instr_of}
 use Rattle.rewrite_rules.proofs.Windows.{matched_instrs, matched_checks, same_place, some_row, found}
 use Rattle.rewrite_rules.proofs.rewriting.rewritten.Goals as goal

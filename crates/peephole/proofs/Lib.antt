@@ -1,0 +1,9 @@
+pub mod Sublists
+pub mod Runs
+pub mod Keys
+pub mod Traces
+pub mod Stands
+pub mod Ends
+pub mod Located
+pub mod Counted
+pub mod Whole
