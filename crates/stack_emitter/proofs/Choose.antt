@@ -1,32 +1,30 @@
 -- IF, ELSE and ENDIF around rows that lead to one place.
-use Rattle.std.proofs.Common.{◌≡◌, ℕ, zero, suc, ◌+◌, ◌≤◌, Bool, true, false, cond, List, [], ◌∷◌, ◌++◌, length, map, drop, Option, Some, None, Result, Ok, Err, refl, sym, ap, ◌∙◌, subst, arith, append_assoc}
-use Rattle.std.specs.Prelude.{option_and_then, ◌&&◌, not}
+use Rattle.std.proofs.Common.{◌≡◌, ℕ, suc, ◌+◌, Bool, true, false, cond, List, [], ◌∷◌, ◌++◌, length, map, Option, Some, Result, Ok, Err, refl, sym, ap, ◌∙◌, subst, append_assoc}
+use Rattle.std.specs.Prelude.{option_and_then, not}
 use Rattle.std.proofs.lemmas.Bool.{and_from}
 use Rattle.cash_base.specs.declared.place.Span.{Span}
-use Rattle.cash_base.specs.declared.fault.MachineCause.{MachineCause}
 use Rattle.cash_base.specs.Failing.{◌>>=◌}
 use Rattle.cash_base.specs.Number.{truth_of}
 use Rattle.tx_context.specs.World.{World}
 use Rattle.script_codec.specs.declared.spans.Spanned.{Spanned}
-use Rattle.opcode_table.specs.declared.rows.Row.{Row}
 use Rattle.opcode_table.specs.declared.rows.Row.TheVariants.{Opens, Flips, Closes}
 use Rattle.opcode_table.specs.Stack.{Stack}
 use Rattle.opcode_table.specs.Table.{row_of, rows}
 use Rattle.bch_vm.specs.Setting.{around}
-use Rattle.bch_vm.specs.Board.{board, is_live, opened_where, row_after, is_executed, outer}
+use Rattle.bch_vm.specs.Board.{board, is_live, opened_where, row_after}
 use Rattle.run_laws.specs.Nested.{open_after_row, nesting}
 use Rattle.source_meaning.specs.declared.outcome.Failure.{Failure}
 use Rattle.source_meaning.specs.Meaning.{Env}
-use Rattle.slot_code.specs.Meaning.{State, state, Act, on_one}
+use Rattle.slot_code.specs.Meaning.{State, state, on_one}
 use Rattle.slot_code.specs.Shape.{Operand}
-use Rattle.row_runs.specs.Rows.{row, instructions, Machine, machine, Next, setting_of, placed, step, run_rows, Executed, logged, executed, is_control, last_of, IsNested}
+use Rattle.row_runs.specs.Rows.{row, instructions, machine, Next, setting_of, placed, step, run_rows, Executed, logged, executed, is_control, last_of, IsNested}
 use Rattle.row_runs.specs.Code.{row_is_simple}
 use Rattle.row_runs.proofs.Turns.{run_append, then_ok, nesting_append, passes, silent, then_log, executed_append}
 use Rattle.stack_emitter.specs.declared.emit.Emitter.{Emitter}
 use Rattle.stack_emitter.specs.Places.{Spot, spot}
 use Rattle.stack_emitter.specs.Codes.{is_sound, are_sound}
 use Rattle.stack_emitter.specs.Correct.{value, machine_at, Fits, Agrees, Deed, Follows, Emits, AtEnd}
-use Rattle.stack_emitter.proofs.Steps.{op, sound_append, emits_by}
+use Rattle.stack_emitter.proofs.Steps.{op, sound_opcode, sound_append, emits_by}
 use Rattle.stack_emitter.proofs.Works.{fits_tail, none_fits}
 use Rattle.stack_emitter.proofs.Tails.{Quiet, end_after, end_before}
 
@@ -110,13 +108,16 @@ module _ (a b : List Spanned) (d c : Span) where
       ∙ otherwise_nests nb n
 
   close_sound : are_sound close ≡ true
-  close_sound = ap (λ w. (row_is_simple w && true) && true) endif_row
+  close_sound = and_from (is_sound (op 0x68)) true (sound_opcode 0x68 refl (ap row_is_simple endif_row) refl) refl
+
+  otherwise_sound : are_sound b ≡ true → are_sound otherwise ≡ true
+  otherwise_sound sb =
+      and_from (is_sound (op 0x67)) (are_sound (b ++ close)) (sound_opcode 0x67 refl (ap row_is_simple else_row) refl) (sound_append b close sb close_sound)
 
   pub choice_sound : are_sound a ≡ true → are_sound b ≡ true → are_sound choice ≡ true
   choice_sound sa sb =
-      ap (λ w. (row_is_simple w && true) && are_sound (a ++ otherwise)) if_row
-      ∙ sound_append a otherwise sa
-      (ap (λ w. (row_is_simple w && true) && are_sound (b ++ close)) else_row ∙ sound_append b close sb close_sound)
+      and_from (is_sound (op 0x63)) (are_sound (a ++ otherwise)) (sound_opcode 0x63 refl (ap row_is_simple if_row) refl)
+      (sound_append a otherwise sa (otherwise_sound sb))
 
   agrees_close : (world : World) (q : Spot) (rest : Stack) (before after : List Bool) (o : Result State Failure) (r : Next) (more : List Spanned)
       → ((s : State) → run_rows world more (machine_at q.slots rest before s) ≡ Ok (machine_at q.slots rest after s))

@@ -1,5 +1,6 @@
 pub mod Lists
 pub mod Quiet
+pub mod Named
 pub mod Steps
 pub mod Works
 pub mod Moves

@@ -1,5 +1,5 @@
 -- Lists from their end.
-use Rattle.std.proofs.Common.{◌≡◌, ℕ, ◌+◌, ◌-◌, ◌≤◌, List, ◌++◌, length, map, reverse, take, drop, refl, sym, ap, ◌∙◌, arith}
+use Rattle.std.proofs.Common.{◌≡◌, ℕ, ◌-◌, ◌≤◌, List, ◌++◌, length, map, reverse, take, drop, sym, ap, ◌∙◌, arith}
 use Rattle.std.proofs.lemmas.List.{reverse-append, take-append-drop, take-map, length-reverse, length-drop, length-map}
 use Rattle.std.proofs.Math.Seq.{drop-append_seam}
 

@@ -1,9 +1,9 @@
 -- Values that are read, moved and dropped.
-use Rattle.std.proofs.Common.{◌≡◌, ℕ, zero, suc, ◌+◌, ◌-◌, ◌^◌, ◌<◌, ◌≤◌, Bool, true, false, cond, not, List, [], ◌∷◌, ◌++◌, length, map, take, drop, Option, Some, None, Result, Ok, Err, pos, refl, sym, ap, ◌∙◌, subst, arith, add-one, append_assoc}
-use Rattle.std.specs.Prelude.{slice_get, nat_lt, ℤ, unwrap_or, ◌==◌, ◌||◌}
+use Rattle.std.proofs.Common.{◌≡◌, ℕ, suc, ◌+◌, ◌^◌, ◌<◌, Bool, true, false, cond, not, List, [], ◌∷◌, ◌++◌, length, map, take, drop, Some, None, Ok, pos, refl, sym, ap, ◌∙◌, subst, arith, add-one, append_assoc}
+use Rattle.std.specs.Prelude.{slice_get, nat_lt, ℤ, unwrap_or, ◌||◌}
 use Rattle.std.specs.List.{position_or_len}
 use Rattle.std.proofs.lemmas.List.{length-map, length-append}
-use Rattle.std.proofs.lemmas.Bool.{false≢true, ltb-true, eqb-true}
+use Rattle.std.proofs.lemmas.Bool.{false≢true, ltb-true}
 use Rattle.std.proofs.lemmas.List.{map-append}
 use Rattle.cash_base.specs.declared.place.Slot.{Slot}
 use Rattle.cash_base.specs.declared.place.Span.{Span}
@@ -11,12 +11,10 @@ use Rattle.cash_base.specs.Failing.{◌>>=◌}
 use Rattle.cash_base.specs.Number.{minimal_bytes, number_of}
 use Rattle.cash_base.specs.Operand.{number_or_cause}
 use Rattle.cash_base.proofs.Laws.{number_of-minimal_bytes}
-use Rattle.tx_context.specs.World.{World}
-use Rattle.script_codec.specs.declared.spans.Spanned.{Spanned}
 use Rattle.script_codec.specs.Reading.{push}
 use Rattle.opcode_table.specs.declared.rows.Deed.TheVariants.{Copies, Moves}
 use Rattle.opcode_table.specs.Stack.{Stack, shared}
-use Rattle.opcode_table.specs.Deeds.{done, index_taken, element_or_underflow, copied, moved, at_index, picked, rolled}
+use Rattle.opcode_table.specs.Deeds.{index_taken, element_or_underflow, copied, moved, at_index, picked, rolled}
 use Rattle.source_meaning.specs.Meaning.{Env, with_value}
 use Rattle.slot_code.specs.Meaning.{State, state, on_one, on_two}
 use Rattle.slot_code.specs.Shape.{Operand, has}
@@ -26,8 +24,8 @@ use Rattle.row_runs.specs.Rows.{row, machine, step, run_rows}
 use Rattle.row_runs.proofs.Turns.{then_ok, nested_append}
 use Rattle.stack_emitter.specs.Places.{Spot, spot}
 use Rattle.stack_emitter.specs.Codes.{IsOpcode}
-use Rattle.stack_emitter.specs.Correct.{value, machine_at, Fits, Agrees, Deed, Follows, nothing, get_deed, drop_deed, lower_deed, then_deed, store_deed}
-use Rattle.stack_emitter.proofs.Steps.{op, asked, stacked, step_push, step_do, push_nested, op_nested, op_sound, sound_append, push_follows, op_follows, follows_then}
+use Rattle.stack_emitter.specs.Correct.{value, Fits, Agrees, Deed, Follows, nothing, get_deed, drop_deed, lower_deed}
+use Rattle.stack_emitter.proofs.Steps.{op, stacked, step_push, step_do, push_nested, op_nested, op_sound, sound_append, follows_then}
 use Rattle.stack_emitter.proofs.Works.{fits_length, fits_tail, drop_table, drop_follows, none_fits}
 
 -- ---- an element so far below the top

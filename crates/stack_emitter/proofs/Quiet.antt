@@ -1,5 +1,5 @@
 -- No operation fails as a check: its failure is told at the operation.
-use Rattle.std.proofs.Common.{◌≡◌, ℕ, ◌+◌, Bool, true, false, cond, List, [], ◌∷◌, length, Option, Some, None, Result, Ok, Err, refl, ap}
+use Rattle.std.proofs.Common.{◌≡◌, ℕ, ◌+◌, Bool, true, false, cond, List, [], ◌∷◌, length, Option, Some, None, Result, Ok, Err, refl}
 use Rattle.std.specs.Prelude.{ℤ, pos, negsuc, ◌==◌, ◌&&◌, ◌||◌, not, nat_le, nat_lt, slice_get, reverse, ◌+ℤ◌, ◌-ℤ◌, ◌*ℤ◌, neg_ℤ, unsigned_abs, int_lt, int_le, int_div, int_rem}
 use Rattle.std.specs.Int.{int_min, int_max}
 use Rattle.std.specs.Ordering.{int_eq}
@@ -24,7 +24,7 @@ use Rattle.element_ops.specs.declared.op.Op2.TheVariants.{Add, Sub, Mul, Div, Mo
 use Rattle.element_ops.specs.declared.op.Op3.{Op3}
 use Rattle.element_ops.specs.declared.op.Op3.TheVariants.{Within}
 use Rattle.element_ops.specs.Operand.{is_in_range, number_element, truth_element}
-use Rattle.element_ops.specs.Operation.{Outcome, result1, result2, result3, split_parts, cut, is_set, divided, bytewise, joined, shortened, padded}
+use Rattle.element_ops.specs.Operation.{Outcome, result1, result2, result3, split_parts, cut, is_set, divided, padded}
 use Rattle.element_ops.specs.Width.{shortest}
 use Rattle.tx_context.specs.Transaction.{Transaction}
 use Rattle.tx_context.specs.Table.{Row}

@@ -1,6 +1,6 @@
 -- The moves of a join, as rows.
-use Rattle.std.proofs.Common.{◌≡◌, ℕ, zero, suc, ◌+◌, ◌*◌, ◌≤◌, arith, Bool, true, false, List, [], ◌∷◌, ◌++◌, length, map, cond, Some, Ok, refl, sym, ap, ◌∙◌, subst}
-use Rattle.std.specs.Prelude.{◌==◌, ◌||◌, ◌&&◌, not, nat_lt, option_and_then, filter, IsTrue}
+use Rattle.std.proofs.Common.{◌≡◌, ℕ, ◌+◌, ◌*◌, ◌≤◌, arith, Bool, true, false, List, [], ◌∷◌, ◌++◌, length, map, cond, Some, Ok, refl, sym, ap, ◌∙◌, subst}
+use Rattle.std.specs.Prelude.{◌==◌, ◌||◌, option_and_then}
 use Rattle.std.specs.List.{list_all}
 use Rattle.std.proofs.lemmas.Bool.{false≢true, and_parts, and_from, eqb-true, eq-eqb}
 use Rattle.cash_base.specs.declared.place.Slot.{Slot}
@@ -8,7 +8,6 @@ use Rattle.cash_base.specs.declared.place.Span.{Span}
 use Rattle.tx_context.specs.World.{World}
 use Rattle.script_codec.specs.declared.instr.Instr.{Instr}
 use Rattle.script_codec.specs.declared.instr.Instr.TheVariants.{Push, Do}
-use Rattle.script_codec.specs.declared.spans.Spanned.{Spanned}
 use Rattle.opcode_table.specs.declared.rows.Deed.TheVariants.{Moves}
 use Rattle.opcode_table.specs.Stack.{Stack}
 use Rattle.bch_vm.specs.Setting.{setting_in}
@@ -17,15 +16,14 @@ use Rattle.bch_vm.specs.Script.{State as MachineState, state_of, beginning, run}
 use Rattle.run_laws.specs.Nested.{open_after_row, open_after, nesting}
 use Rattle.branch_layout.specs.Slots.{has, all_stand_in, kept_of}
 use Rattle.branch_layout.specs.Arms.{counted_opcodes, Reaches, is_move, IsArm}
-use Rattle.slot_code.specs.Meaning.{State}
-use Rattle.row_runs.specs.Rows.{row, instructions, Machine, machine, run_rows, is_control, IsNested}
+use Rattle.row_runs.specs.Rows.{instructions, machine, run_rows, IsNested}
 use Rattle.row_runs.specs.Code.{is_simple, are_simple, row_is_simple}
 use Rattle.row_runs.proofs.Located.{ok_from}
 use Rattle.stack_emitter.specs.declared.emit.Emitter.{Emitter}
-use Rattle.stack_emitter.specs.Places.{Spot, spot}
-use Rattle.stack_emitter.specs.Codes.{is_span, is_sound, are_sound, is_plain_instr, are_plain, IsOpcode, bytes_of, ops_of}
+use Rattle.stack_emitter.specs.Places.{spot}
+use Rattle.stack_emitter.specs.Codes.{is_sound, are_sound, is_plain_instr, are_plain, bytes_of, ops_of}
 use Rattle.stack_emitter.specs.Correct.{value, Fits, Follows, Adds, nothing, rows_of}
-use Rattle.stack_emitter.proofs.Steps.{op, op_nested, op_sound, plain_row, op_plain, adds_by}
+use Rattle.stack_emitter.proofs.Steps.{op, op_sound, plain_row, adds_by}
 use Rattle.stack_emitter.proofs.Works.{drop_table}
 use Rattle.stack_emitter.proofs.Sizes.{bytes_append, ops_append}
 use Rattle.stack_emitter.proofs.Tails.{no_operand}
@@ -87,7 +85,7 @@ moves_sound c (move ∷ moves) h =
     let p = and_parts (is_move move) (list_all is_move moves) h in
     and_from (is_sound move) (are_sound (rows_of c moves)) (fine move p.0).sound (moves_sound c moves p.1)
 
-moves_plain : (c : Span) (moves : List Instr) → list_all is_move moves ≡ true → are_plain c (rows_of c moves) ≡ true
+moves_plain : (c : Span) (moves : List Instr) → list_all is_move moves ≡ true → are_plain c c (rows_of c moves) ≡ true
 moves_plain c [] h = refl
 moves_plain c (move ∷ moves) h =
     let p = and_parts (is_move move) (list_all is_move moves) h in
@@ -143,10 +141,10 @@ kept_itself target = kept_all target target (stand_in_itself target)
 
 pub settled : (old new : Emitter) (checking : Span) (from target left : List Slot) (moves : List Instr) → old.place.operands ≡ [] → from ≡ old.place.slots
     → left ≡ kept_of target target → IsArm from left moves → new.code.items ≡ old.code.items ++ rows_of checking moves → new.place ≡ spot [] left
-    → Adds checking old new nothing
+    → Adds checking checking old new nothing
 settled old new checking from target left moves none same left_is arm code place =
     let at : spot [] from ≡ old.place = ap (λ o. spot o from) (sym none) ∙ ap (spot old.place.operands) same in
-    adds_by checking old new (rows_of checking moves) nothing (spot [] left) code place
+    adds_by checking checking old new (rows_of checking moves) nothing (spot [] left) code place
     (subst (λ p. Follows (rows_of checking moves) nothing p (spot [] left)) at (reach_follows checking moves from left arm.reaches arm.weighs.plain))
     (moves_plain checking moves arm.weighs.plain)
 

@@ -1,22 +1,20 @@
 -- What rows do where they are executed, and what of them composes.
-use Rattle.std.proofs.Common.{◌≡◌, ℕ, zero, suc, ◌+◌, ◌-◌, ◌≤◌, Bool, true, false, cond, not, List, [], ◌∷◌, ◌++◌, length, map, drop, Option, Some, None, Result, Ok, Err, refl, sym, ap, ◌∙◌, subst, arith, append_assoc, append-nil}
+use Rattle.std.proofs.Common.{◌≡◌, ℕ, Bool, true, not, List, [], ◌∷◌, ◌++◌, map, Result, Ok, Err, refl, sym, ap, ◌∙◌, subst, append_assoc, append-nil}
 use Rattle.std.specs.Prelude.{◌&&◌, ◌==◌, nat_lt, option_and_then}
-use Rattle.std.specs.List.{list_all}
-use Rattle.std.proofs.lemmas.Bool.{false≢true, and_parts, and_from, eq-eqb}
+use Rattle.std.proofs.lemmas.Bool.{and_parts, and_from, eq-eqb}
 use Rattle.cash_base.specs.declared.fault.MachineCause.{MachineCause}
-use Rattle.cash_base.specs.declared.fault.MachineCause.TheVariants.{Shared}
-use Rattle.cash_base.specs.declared.place.Slot.{Slot}
 use Rattle.cash_base.specs.declared.place.Span.{Span}
 use Rattle.cash_base.specs.Failing.{◌>>=◌}
 use Rattle.cash_base.specs.Source.{place_in}
 use Rattle.tx_context.specs.World.{World}
 use Rattle.script_codec.specs.declared.instr.Instr.{Instr}
-use Rattle.script_codec.specs.declared.instr.Instr.TheVariants.{Push, Do}
+use Rattle.script_codec.specs.declared.instr.Instr.TheVariants.{Do}
 use Rattle.script_codec.specs.declared.spans.Spanned.{Spanned}
 use Rattle.script_codec.specs.Reading.{push}
 use Rattle.script_codec.specs.Counting.{takes_keys}
+use Rattle.script_codec.specs.Names.{is_named, has_name}
+use Rattle.stack_emitter.proofs.Named.{op_named}
 use Rattle.opcode_table.specs.declared.rows.Deed.{Deed as TableDeed}
-use Rattle.opcode_table.specs.declared.rows.Row.{Row}
 use Rattle.opcode_table.specs.declared.rows.Row.TheVariants.{Does}
 use Rattle.opcode_table.specs.Asking.{Asked}
 use Rattle.opcode_table.specs.Stack.{Stack}
@@ -24,18 +22,16 @@ use Rattle.opcode_table.specs.Deeds.{done}
 use Rattle.opcode_table.specs.Table.{row_of}
 use Rattle.bch_vm.specs.Setting.{around, asked_at}
 use Rattle.bch_vm.specs.Board.{board, is_live, on_stack, executed_where, row_after, pushed_where, is_condition}
-use Rattle.run_laws.specs.Nested.{open_after_row, open_after, nesting}
+use Rattle.run_laws.specs.Nested.{open_after_row, nesting}
 use Rattle.source_meaning.specs.declared.outcome.Failure.{Failure}
-use Rattle.source_meaning.specs.Meaning.{Env}
-use Rattle.slot_code.specs.Meaning.{State, state, Act}
-use Rattle.slot_code.specs.Shape.{Operand}
-use Rattle.row_runs.specs.Rows.{row, instructions, Machine, machine, Fault, fault, Next, setting_of, placed, step, run_rows, IsNested}
+use Rattle.slot_code.specs.Meaning.{State, Act}
+use Rattle.row_runs.specs.Rows.{row, machine, fault, Next, setting_of, placed, step, run_rows, IsNested}
 use Rattle.row_runs.specs.Code.{row_is_simple}
-use Rattle.row_runs.proofs.Turns.{run_append, then_ok, nested_append, instructions_append}
-use Rattle.stack_emitter.specs.Places.{Spot, spot}
+use Rattle.row_runs.proofs.Turns.{run_append, then_ok, nested_append}
+use Rattle.stack_emitter.specs.Places.{Spot}
 use Rattle.stack_emitter.specs.declared.emit.Emitter.{Emitter}
-use Rattle.stack_emitter.specs.Codes.{is_span, is_sound, are_sound, is_plain_instr, are_plain, is_plain_opcode, IsOpcode}
-use Rattle.stack_emitter.specs.Correct.{value, machine_at, Fits, told, Agrees, Deed, Follows, Emits, Adds, nothing, then_deed}
+use Rattle.stack_emitter.specs.Codes.{is_span, is_sound, are_sound, is_plain_instr, are_plain, is_in_names, is_plain_opcode, IsOpcode}
+use Rattle.stack_emitter.specs.Correct.{value, machine_at, Fits, Agrees, Deed, Follows, Emits, Adds, nothing, then_deed}
 
 abbrev pub op : ℕ → Instr
 op opcode = Do (record { 0 = opcode })
@@ -76,19 +72,24 @@ pub op_nested : (opcode : ℕ) (deed : TableDeed) (d c : Span) → row_of opcode
 op_nested opcode deed d c at n = ap (λ w. option_and_then (nesting []) (open_after_row w n)) at
 
 opcode_parts : (opcode : ℕ) → is_plain_opcode opcode ≡ true
-    → (nat_lt 0x60 opcode ≡ true) × (not (is_condition opcode) ≡ true) × (not (opcode == 0x74) ≡ true) × (not (takes_keys opcode) ≡ true)
+    → (is_in_names opcode ≡ true) × (not (is_condition opcode) ≡ true) × (not (opcode == 0x74) ≡ true) × (not (takes_keys opcode) ≡ true)
 opcode_parts opcode h =
-    let p = and_parts (nat_lt 0x60 opcode) _ h in
+    let p = and_parts (is_in_names opcode) _ h in
     let q = and_parts (not (is_condition opcode)) _ p.1 in
     let r = and_parts (not (opcode == 0x74)) _ q.1 in
     (p.0, q.0, r.0, r.1)
 
+-- an opcode that has a name
+pub sound_opcode : (opcode : ℕ) → is_in_names opcode ≡ true → row_is_simple (row_of opcode) ≡ true → not (opcode == 0x74) ≡ true → is_sound (op opcode) ≡ true
+sound_opcode opcode named simple other =
+    let n = op_named opcode named in
+    and_from (nat_lt 0x60 opcode) _ (and_parts (nat_lt 0x60 opcode) (has_name opcode) n).0
+    (and_from (row_is_simple (row_of opcode)) _ simple (and_from (not (opcode == 0x74)) (is_named (op opcode)) other n))
+
 pub op_sound : (opcode : ℕ) (deed : TableDeed) (d c : Span) → IsOpcode opcode deed → are_sound (row (op opcode) d c ∷ []) ≡ true
 op_sound opcode deed d c is =
     let p = opcode_parts opcode is.plain in
-    and_from (nat_lt 0x60 opcode && (row_is_simple (row_of opcode) && not (opcode == 0x74))) true
-    (and_from (nat_lt 0x60 opcode) (row_is_simple (row_of opcode) && not (opcode == 0x74)) p.0
-    (and_from (row_is_simple (row_of opcode)) (not (opcode == 0x74)) (ap row_is_simple is.row) p.2)) refl
+    and_from (is_sound (op opcode)) true (sound_opcode opcode p.0 (ap row_is_simple is.row) p.2) refl
 
 pub sound_append : (a b : List Spanned) → are_sound a ≡ true → are_sound b ≡ true → are_sound (a ++ b) ≡ true
 sound_append [] b h k = k
@@ -99,22 +100,23 @@ sound_append (r ∷ a) b h k =
 pub itself : (c : Span) → is_span c c ≡ true
 itself c = and_from (c.from == c.from) (c.to == c.to) (eq-eqb c.from c.from refl) (eq-eqb c.to c.to refl)
 
-pub plain_row : (instr : Instr) (d c : Span) (rows : List Spanned) → is_plain_instr instr ≡ true → are_plain c rows ≡ true
-    → are_plain c (row instr d c ∷ rows) ≡ true
+pub plain_row : (instr : Instr) (d c : Span) (rows : List Spanned) → is_plain_instr instr ≡ true → are_plain d c rows ≡ true
+    → are_plain d c (row instr d c ∷ rows) ≡ true
 plain_row instr d c rows h k =
-    ap (λ b. (b && is_plain_instr instr) && are_plain c rows) (itself c) ∙ ap (λ b. b && are_plain c rows) h ∙ k
+    ap (λ b. ((b && is_span c c) && is_plain_instr instr) && are_plain d c rows) (itself d)
+    ∙ ap (λ b. (b && is_plain_instr instr) && are_plain d c rows) (itself c) ∙ ap (λ b. b && are_plain d c rows) h ∙ k
 
-pub op_plain : (opcode : ℕ) (d c : Span) (rows : List Spanned) → is_plain_opcode opcode ≡ true → are_plain c rows ≡ true
-    → are_plain c (row (op opcode) d c ∷ rows) ≡ true
+pub op_plain : (opcode : ℕ) (d c : Span) (rows : List Spanned) → is_plain_opcode opcode ≡ true → are_plain d c rows ≡ true
+    → are_plain d c (row (op opcode) d c ∷ rows) ≡ true
 op_plain opcode d c rows h k =
     let p = opcode_parts opcode h in
     plain_row (op opcode) d c rows (and_from (not (is_condition opcode)) (not (takes_keys opcode)) p.1 p.3) k
 
-pub plain_append : (c : Span) (a b : List Spanned) → are_plain c a ≡ true → are_plain c b ≡ true → are_plain c (a ++ b) ≡ true
-plain_append c [] b h k = k
-plain_append c (r ∷ a) b h k =
-    let p = and_parts (is_span c r.checking && is_plain_instr r.instr) (are_plain c a) h in
-    and_from (is_span c r.checking && is_plain_instr r.instr) (are_plain c (a ++ b)) p.0 (plain_append c a b p.1 k)
+pub plain_append : (d c : Span) (a b : List Spanned) → are_plain d c a ≡ true → are_plain d c b ≡ true → are_plain d c (a ++ b) ≡ true
+plain_append d c [] b h k = k
+plain_append d c (r ∷ a) b h k =
+    let p = and_parts ((is_span d r.doing && is_span c r.checking) && is_plain_instr r.instr) (are_plain d c a) h in
+    and_from ((is_span d r.doing && is_span c r.checking) && is_plain_instr r.instr) (are_plain d c (a ++ b)) p.0 (plain_append d c a b p.1 k)
 
 -- ---- rows that follow deeds
 
@@ -175,9 +177,9 @@ abbrev pub emits_by : (old new : Emitter) (rows : List Spanned) (deed : Deed) (q
 emits_by old new rows deed q code place follows =
     record { rows = rows; grown = code; follows = subst (λ p. Follows rows deed old.place p) (sym place) follows }
 
-pub adds_by : (checking : Span) (old new : Emitter) (rows : List Spanned) (deed : Deed) (q : Spot) → new.code.items ≡ old.code.items ++ rows → new.place ≡ q
-    → Follows rows deed old.place q → are_plain checking rows ≡ true → Adds checking old new deed
-adds_by checking old new rows deed q code place follows plain =
+pub adds_by : (doing checking : Span) (old new : Emitter) (rows : List Spanned) (deed : Deed) (q : Spot) → new.code.items ≡ old.code.items ++ rows → new.place ≡ q
+    → Follows rows deed old.place q → are_plain doing checking rows ≡ true → Adds doing checking old new deed
+adds_by doing checking old new rows deed q code place follows plain =
     record { emits = emits_by old new rows deed q code place follows; plain = plain }
 
 abbrev pub emits_then : (a b c : Emitter) (f g : Deed) → Emits a b f → Emits b c g → Emits a c (then_deed f g)
@@ -187,12 +189,12 @@ emits_then a b c f g x y = record {
   follows = follows_then x.rows y.rows f g a.place b.place c.place x.follows y.follows;
 }
 
-pub adds_then : (checking : Span) (a b c : Emitter) (f g : Deed) → Adds checking a b f → Adds checking b c g → Adds checking a c (then_deed f g)
-adds_then checking a b c f g x y = record {
+pub adds_then : (doing checking : Span) (a b c : Emitter) (f g : Deed) → Adds doing checking a b f → Adds doing checking b c g → Adds doing checking a c (then_deed f g)
+adds_then doing checking a b c f g x y = record {
   emits = emits_then a b c f g x.emits y.emits;
-  plain = plain_append checking x.emits.rows y.emits.rows x.plain y.plain;
+  plain = plain_append doing checking x.emits.rows y.emits.rows x.plain y.plain;
 }
 
-pub adds_nothing : (checking : Span) (e : Emitter) → Adds checking e e nothing
-adds_nothing checking e =
-    adds_by checking e e [] nothing e.place (sym (append-nil e.code.items)) refl (follows_none e.place) refl
+pub adds_nothing : (doing checking : Span) (e : Emitter) → Adds doing checking e e nothing
+adds_nothing doing checking e =
+    adds_by doing checking e e [] nothing e.place (sym (append-nil e.code.items)) refl (follows_none e.place) refl

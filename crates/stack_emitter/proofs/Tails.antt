@@ -1,32 +1,32 @@
 -- The end of a path: one element is left on the stack, alone.
-use Rattle.std.proofs.Common.{◌≡◌, ℕ, zero, suc, ◌+◌, ◌≢◌, Bool, true, false, cond, List, [], ◌∷◌, ◌++◌, length, map, replicate, Option, Some, None, Result, Ok, Err, pos, refl, sym, ap, ◌∙◌, subst, arith, inl, inr, append_assoc, append-nil}
-use Rattle.std.specs.Prelude.{◌&&◌}
+use Rattle.std.proofs.Common.{◌≡◌, ℕ, zero, suc, ◌+◌, ◌≤◌, nat_lt, ◌≢◌, Bool, true, false, cond, List, [], ◌∷◌, ◌++◌, length, map, replicate, Option, Some, Result, Ok, Err, pos, refl, sym, ap, ◌∙◌, subst, arith, inl, inr, append_assoc, append-nil}
 use Rattle.std.proofs.lemmas.List.{length-map}
 use Rattle.cash_base.specs.declared.fault.Cause.TheVariants.{CheckFailed}
-use Rattle.cash_base.specs.declared.place.Slot.{Slot}
 use Rattle.cash_base.specs.declared.place.Span.{Span}
 use Rattle.cash_base.specs.Failing.{◌>>=◌}
 use Rattle.cash_base.specs.Number.{truth_of, digits, minimal_bytes}
 use Rattle.tx_context.specs.World.{World}
-use Rattle.script_codec.specs.declared.instr.Instr.{Instr}
 use Rattle.script_codec.specs.declared.spans.Spanned.{Spanned}
 use Rattle.script_codec.specs.Reading.{push}
+use Rattle.script_codec.specs.Spelling.{minimal_push}
+use Rattle.script_codec.specs.Counting.{weight}
 use Rattle.opcode_table.specs.Stack.{Stack}
 use Rattle.opcode_table.specs.declared.rows.Deed.TheVariants.{Stays}
 use Rattle.opcode_table.specs.declared.rows.Deed.{Deed as TableDeed}
 use Rattle.opcode_table.specs.Deeds.{done}
-use Rattle.bch_vm.specs.Board.{is_live, is_executed, is_condition, ends_block}
+use Rattle.bch_vm.specs.Board.{is_live, is_executed}
 use Rattle.source_meaning.specs.declared.outcome.Failure.{Failure}
 use Rattle.source_meaning.specs.Meaning.{Env, fails, checked}
-use Rattle.slot_code.specs.Meaning.{State, state, Act, on_one, goes_on}
+use Rattle.slot_code.specs.Meaning.{State, on_one, goes_on}
 use Rattle.slot_code.specs.Shape.{Operand}
-use Rattle.row_runs.specs.Rows.{row, Machine, machine, Next, step, run_rows, Executed, logged, executed, is_control, last_of, IsNested}
-use Rattle.row_runs.proofs.Turns.{run_append, then_ok, nested_append, passes, silent, then_log, executed_append, last_append}
-use Rattle.stack_emitter.specs.Places.{Spot, spot}
+use Rattle.row_runs.specs.Rows.{row, Machine, machine, step, run_rows, Executed, logged, executed, is_control, last_of, IsNested}
+use Rattle.row_runs.proofs.Turns.{run_append, then_ok, nested_append, then_log, executed_append, last_append}
+use Rattle.stack_emitter.specs.Places.{Spot}
 use Rattle.stack_emitter.specs.declared.emit.Emitter.{Emitter}
-use Rattle.stack_emitter.specs.Codes.{are_sound, are_plain, IsOpcode}
-use Rattle.stack_emitter.specs.Correct.{value, machine_at, Fits, told, Deed, nothing, check_deed, IsLast, EndsIn, FalseEnd, AtEnd, Tail, Ends}
+use Rattle.stack_emitter.specs.Codes.{are_sound, are_plain, IsOpcode, bytes_of, ops_of}
+use Rattle.stack_emitter.specs.Correct.{value, Fits, Deed, nothing, check_deed, IsLast, EndsIn, AtEnd, Tail, Ends, EndCosts}
 use Rattle.stack_emitter.proofs.Steps.{op, asked, stacked, step_push, step_do, push_nested, op_nested, op_sound, sound_append, plain_row, op_plain, plain_append}
+use Rattle.stack_emitter.proofs.Sizes.{bytes_append, ops_append, bytes_more, ops_more}
 use Rattle.stack_emitter.proofs.Works.{drop_table, nip_table, fits_length}
 use Rattle.stack_emitter.proofs.Emits.{drop_opcode, nip_opcode, nop_opcode}
 
@@ -140,7 +140,7 @@ repeat_sound : (r : Spanned) (n : ℕ) → are_sound (r ∷ []) ≡ true → are
 repeat_sound r zero h = refl
 repeat_sound r (suc n) h = sound_append (r ∷ []) (replicate n r) h (repeat_sound r n h)
 
-repeat_plain : (opcode : ℕ) (deed : TableDeed) (c : Span) (n : ℕ) → IsOpcode opcode deed → are_plain c (replicate n (row (op opcode) c c)) ≡ true
+repeat_plain : (opcode : ℕ) (deed : TableDeed) (c : Span) (n : ℕ) → IsOpcode opcode deed → are_plain c c (replicate n (row (op opcode) c c)) ≡ true
 repeat_plain opcode deed c zero is = refl
 repeat_plain opcode deed c (suc n) is = op_plain opcode c c (replicate n (row (op opcode) c c)) is.plain (repeat_plain opcode deed c n is)
 
@@ -212,7 +212,7 @@ above c n world x (v ∷ values) conditions live len =
     )
 
 ends_by : (checking : Span) (old new : Emitter) (rows : List Spanned) (deed : Deed) → new.code.items ≡ old.code.items ++ rows → Tail rows deed old.place checking
-    → are_plain checking rows ≡ true → Ends checking old new deed
+    → are_plain checking checking rows ≡ true → Ends checking old new deed
 ends_by checking old new rows deed code tail plain = record { rows = rows; plain = plain; grown = code; tail = tail }
 
 pub ends_alone : (old new : Emitter) (n : ℕ) (doing checking : Span) → length old.place.operands ≡ 1 → n ≡ length old.place.slots → n ≡ 0
@@ -299,5 +299,62 @@ ends_true old mid new n checking none len first second =
     ends_by checking old new (true_rows n checking) nothing
     (second ∙ ap (λ l. l ++ true_row checking ∷ []) first ∙ append_assoc old.code.items (replicate n (row (op 0x75) checking checking)) (true_row checking ∷ []))
     (true_tail checking old.place n len none)
-    (plain_append checking (replicate n (row (op 0x75) checking checking)) (true_row checking ∷ []) (repeat_plain 0x75 drop_table checking n drop_opcode)
+    (plain_append checking checking (replicate n (row (op 0x75) checking checking)) (true_row checking ∷ []) (repeat_plain 0x75 drop_table checking n drop_opcode)
     (plain_row (push (minimal_bytes (pos 1))) checking checking [] refl refl))
+
+-- ---- what ends cost
+
+-- an opcode so many times
+repeat_bytes : (opcode n : ℕ) (checking : Span) → bytes_of (replicate n (row (op opcode) checking checking)) ≡ n
+unfolding bytes_of
+repeat_bytes opcode zero checking = refl
+repeat_bytes opcode (suc n) checking = let more = repeat_bytes opcode n checking in omega (arith, more)
+
+opcode_weight : (opcode : ℕ) → weight opcode ≤ 1
+opcode_weight opcode = by (nat_lt 0x60 opcode)
+  where
+    by : (b : Bool) → cond b 1 0 ≤ 1
+    by true = omega arith
+    by false = omega arith
+
+repeat_ops : (opcode n : ℕ) (checking : Span) → ops_of (replicate n (row (op opcode) checking checking)) ≤ n
+unfolding ops_of
+repeat_ops opcode zero checking = omega arith
+repeat_ops opcode (suc n) checking =
+    let more = repeat_ops opcode n checking in let one = opcode_weight opcode in omega (arith, more, one)
+
+pub costs_alone : (old new : Emitter) (n : ℕ) (checking : Span) → n ≡ length old.place.slots → n ≡ 0
+    → new.code.items ≡ old.code.items ++ row (op 0x61) checking checking ∷ [] → EndCosts old new
+costs_alone old new n checking len none code =
+    let b = bytes_more new.code.items old.code.items (op 0x61) checking checking code in
+    let o = ops_more new.code.items old.code.items (op 0x61) checking checking code in
+    let one = opcode_weight 0x61 in
+    record { bytes_fit = omega (arith, b); ops_fit = omega (arith, o, one) }
+
+pub costs_above : (old new : Emitter) (n : ℕ) (checking : Span) → n ≡ length old.place.slots
+    → new.code.items ≡ old.code.items ++ replicate n (row (op 0x77) checking checking) → EndCosts old new
+costs_above old new n checking len code =
+    let rows = replicate n (row (op 0x77) checking checking) in
+    let b = ap bytes_of code ∙ bytes_append old.code.items rows in
+    let o = ap ops_of code ∙ ops_append old.code.items rows in
+    let nb = repeat_bytes 0x77 n checking in
+    let no = repeat_ops 0x77 n checking in
+    record { bytes_fit = omega (arith, b, nb, len); ops_fit = omega (arith, o, no, len) }
+
+one_byte : length (minimal_push (minimal_bytes (pos 1))) ≡ 1
+unfolding digits
+one_byte = refl
+
+pub costs_true : (old mid new : Emitter) (n : ℕ) (checking : Span) → n ≡ length old.place.slots
+    → mid.code.items ≡ old.code.items ++ replicate n (row (op 0x75) checking checking)
+    → new.code.items ≡ mid.code.items ++ row (push (minimal_bytes (pos 1))) checking checking ∷ [] → EndCosts old new
+costs_true old mid new n checking len first second =
+    let rows = replicate n (row (op 0x75) checking checking) in
+    let b = ap bytes_of first ∙ bytes_append old.code.items rows in
+    let o = ap ops_of first ∙ ops_append old.code.items rows in
+    let nb = repeat_bytes 0x75 n checking in
+    let no = repeat_ops 0x75 n checking in
+    let c = bytes_more new.code.items mid.code.items (push (minimal_bytes (pos 1))) checking checking second in
+    let p = ops_more new.code.items mid.code.items (push (minimal_bytes (pos 1))) checking checking second in
+    let one = one_byte in
+    record { bytes_fit = omega (arith, b, nb, c, one, len); ops_fit = omega (arith, o, no, p, len) }

@@ -1,8 +1,7 @@
 -- Each kind of instruction that works on operands alone, and the rows that do the same.
-use Rattle.std.proofs.Common.{◌≡◌, ℕ, zero, suc, ◌+◌, ◌-◌, ◌≤◌, Bool, true, false, cond, not, List, [], ◌∷◌, ◌++◌, length, map, take, drop, Option, Some, None, Result, Ok, Err, pos, refl, sym, ap, ◌∙◌, subst, arith}
+use Rattle.std.proofs.Common.{◌≡◌, ℕ, suc, ◌≤◌, Bool, true, false, cond, not, List, [], ◌∷◌, ◌++◌, length, map, drop, Some, None, Result, Ok, Err, pos, refl, sym, ap, subst, arith}
 use Rattle.cash_base.specs.declared.fault.Cause.{Cause}
 use Rattle.cash_base.specs.declared.fault.Cause.TheVariants.{CheckFailed}
-use Rattle.cash_base.specs.declared.fault.MachineCause.{MachineCause}
 use Rattle.cash_base.specs.declared.fault.MachineCause.TheVariants.{Shared}
 use Rattle.cash_base.specs.declared.place.Slot.{Slot}
 use Rattle.cash_base.specs.declared.place.Span.{Span}
@@ -18,14 +17,13 @@ use Rattle.opcode_table.specs.Stack as vm
 use Rattle.opcode_table.specs.Deeds as deeds
 use Rattle.opcode_table.specs.Deeds.{done}
 use Rattle.script_codec.specs.declared.spans.Spanned.{Spanned}
-use Rattle.source_meaning.specs.declared.outcome.Failure.{Failure}
-use Rattle.source_meaning.specs.Meaning.{Env, with_value, fails, at_span, checked, passed}
-use Rattle.slot_code.specs.Meaning.{State, state, Act, on_one, on_two, on_three, gives, splits, goes_on}
+use Rattle.source_meaning.specs.Meaning.{Env, fails, at_span, checked, passed}
+use Rattle.slot_code.specs.Meaning.{State, state, on_one, on_two, on_three, gives, splits, goes_on}
 use Rattle.slot_code.specs.Shape.{Operand}
-use Rattle.row_runs.specs.Rows.{row, machine, Fault, fault, Next, run_rows}
+use Rattle.row_runs.specs.Rows.{row, fault, run_rows}
 use Rattle.stack_emitter.specs.Places.{Spot, spot}
 use Rattle.stack_emitter.specs.Codes.{IsOpcode}
-use Rattle.stack_emitter.specs.Correct.{value, machine_at, Fits, told, Agrees, Deed, Follows, lit_deed, get_deed, drop_deed, keep_deed, then_deed, check_deed}
+use Rattle.stack_emitter.specs.Correct.{value, machine_at, Fits, Agrees, Deed, Follows, drop_deed, keep_deed, then_deed, check_deed}
 use Rattle.stack_emitter.proofs.Quiet.{IsQuiet, told_at, split_quiet}
 use Rattle.stack_emitter.proofs.Steps.{op, asked, stacked, op_follows, follows_then}
 

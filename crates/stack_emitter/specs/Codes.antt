@@ -1,5 +1,5 @@
 -- The form of emitted rows: which instructions stand among them, and what they weigh.
-use Rattle.std.specs.Prelude.{◌≡◌, ℕ, ◌+◌, ◌==◌, Bool, true, false, not, ◌&&◌, nat_lt, List, [], ◌∷◌, length, Option, Some, None, if◌then◌else◌}
+use Rattle.std.specs.Prelude.{◌≡◌, ℕ, ◌+◌, ◌==◌, Bool, true, false, not, ◌&&◌, ◌||◌, nat_lt, List, [], ◌∷◌, length}
 use Rattle.std.specs.List.{list_all}
 use Rattle.cash_base.specs.declared.place.Span.{Span}
 use Rattle.script_codec.specs.declared.instr.Instr.{Instr}
@@ -7,6 +7,7 @@ use Rattle.script_codec.specs.declared.instr.Instr.TheVariants.{Push, Do}
 use Rattle.script_codec.specs.declared.spans.Spanned.{Spanned}
 use Rattle.script_codec.specs.Spelling.{is_instruction, spelling, spellings}
 use Rattle.script_codec.specs.Counting.{weight, takes_keys}
+use Rattle.script_codec.specs.Names.{is_named}
 use Rattle.element_ops.specs.declared.op.Op1.{Op1}
 use Rattle.element_ops.specs.declared.op.Op1.TheVariants.{Size}
 use Rattle.opcode_table.specs.declared.rows.Deed.{Deed}
@@ -26,13 +27,17 @@ abbrev pub is_depth : Instr → Bool
 is_depth (Push e) = false
 is_depth (Do opcode) = opcode.0 == 0x74
 
--- it has a spelling, and is none of CODESEPARATOR, DEPTH, TOALTSTACK and FROMALTSTACK
+-- it has a spelling, is none of CODESEPARATOR, DEPTH, TOALTSTACK and FROMALTSTACK, and has a name where it is no push
 abbrev pub is_sound : Instr → Bool
-is_sound instr = is_instruction instr && (is_simple instr && not (is_depth instr))
+is_sound instr = is_instruction instr && (is_simple instr && (not (is_depth instr) && is_named instr))
+
+-- each opcode from 61 to bc and from c0 to cd has a name
+abbrev pub is_in_names : ℕ → Bool
+is_in_names opcode = nat_lt 0x60 opcode && (nat_lt opcode 0xbd || (nat_lt 0xbf opcode && nat_lt opcode 0xce))
 
 -- an opcode that may be emitted in a statement: no IF, NOTIF, ELSE or ENDIF, and it asks for no keys
 abbrev pub is_plain_opcode : ℕ → Bool
-is_plain_opcode opcode = nat_lt 0x60 opcode && (not (is_condition opcode) && (not (opcode == 0x74) && not (takes_keys opcode)))
+is_plain_opcode opcode = is_in_names opcode && (not (is_condition opcode) && (not (opcode == 0x74) && not (takes_keys opcode)))
 
 -- an opcode that does this deed
 pub record IsOpcode (opcode : ℕ) (deed : Deed) : Type 0 where
@@ -51,10 +56,11 @@ are_sound rows = list_all is_sound (instructions rows)
 abbrev pub is_plain_instr : Instr → Bool
 is_plain_instr instr = not (is_control instr) && not (asks_for_keys instr)
 
--- rows of one statement, and all plain
-abbrev pub are_plain : Span → List Spanned → Bool
-are_plain checking [] = true
-are_plain checking (row ∷ rows) = (is_span checking row.checking && is_plain_instr row.instr) && are_plain checking rows
+-- rows at these two places, and all plain
+abbrev pub are_plain : Span → Span → List Spanned → Bool
+are_plain doing checking [] = true
+are_plain doing checking (row ∷ rows) =
+    ((is_span doing row.doing && is_span checking row.checking) && is_plain_instr row.instr) && are_plain doing checking rows
 
 -- ---- bytes and counted opcodes
 

@@ -1,6 +1,5 @@
 -- What it is for emitted rows to follow slot code.
-use Rattle.std.specs.Prelude.{◌≡◌, ◌+◌, ◌*◌, ◌≤◌, ℕ, Bool, true, false, ◌&&◌, List, [], ◌∷◌, ◌++◌, map, length, drop, Option, Some, None, unwrap_or, ◌⊎◌, if◌then◌else◌, Result, Ok, Err}
-use Rattle.std.specs.List.{list_all}
+use Rattle.std.specs.Prelude.{◌≡◌, ◌+◌, ◌≤◌, ℕ, Bool, true, false, List, [], ◌∷◌, ◌++◌, map, length, Option, Some, None, unwrap_or, ◌⊎◌, if◌then◌else◌, Result, Ok, Err}
 use Rattle.cash_base.specs.declared.fault.Cause.TheVariants.{CheckFailed}
 use Rattle.cash_base.specs.declared.fault.MachineCause.TheVariants.{Shared}
 use Rattle.cash_base.specs.declared.place.Slot.{Slot}
@@ -9,7 +8,6 @@ use Rattle.cash_base.specs.Failing.{◌>>=◌}
 use Rattle.cash_base.specs.Number.{truth_of}
 use Rattle.tx_context.specs.World.{World}
 use Rattle.script_codec.specs.declared.instr.Instr.{Instr}
-use Rattle.script_codec.specs.declared.instr.Instr.TheVariants.{Push, Do}
 use Rattle.script_codec.specs.declared.spans.Spanned.{Spanned}
 use Rattle.opcode_table.specs.Stack.{Stack}
 use Rattle.bch_vm.specs.Board.{is_live}
@@ -17,8 +15,8 @@ use Rattle.source_meaning.specs.declared.outcome.Failure.{Failure}
 use Rattle.source_meaning.specs.Meaning.{Env, with_value, checked}
 use Rattle.slot_code.specs.Meaning.{State, state, Act, on_one, on_two, goes_on}
 use Rattle.slot_code.specs.Shape.{Operand}
-use Rattle.row_runs.specs.Rows.{Machine, machine, Fault, fault, Next, run_rows, instructions, Executed, executed, last_of, IsNested}
-use Rattle.stack_emitter.specs.Places.{Spot, spot}
+use Rattle.row_runs.specs.Rows.{Machine, machine, Fault, fault, Next, run_rows, Executed, executed, last_of, IsNested}
+use Rattle.stack_emitter.specs.Places.{Spot}
 use Rattle.stack_emitter.specs.declared.emit.Emitter.{Emitter}
 use Rattle.stack_emitter.specs.Codes.{are_sound, are_plain, bytes_of, ops_of}
 
@@ -67,10 +65,10 @@ pub record Emits (old new : Emitter) (deed : Deed) : Type 0 where
   pub grown : new.code.items ≡ old.code.items ++ rows
   pub follows : Follows rows deed old.place new.place
 
--- the same, by rows of one statement without IF, NOTIF, ELSE and ENDIF
-pub record Adds (checking : Span) (old new : Emitter) (deed : Deed) : Type 0 where
+-- the same, by rows of one operation of a statement, without IF, NOTIF, ELSE and ENDIF
+pub record Adds (doing checking : Span) (old new : Emitter) (deed : Deed) : Type 0 where
   pub emits : Emits old new deed
-  pub plain : are_plain checking emits.rows ≡ true
+  pub plain : are_plain doing checking emits.rows ≡ true
 
 -- at most so many bytes and counted opcodes more, where each slot that no longer stands gives one of each, and each further slot
 -- takes one of each
@@ -160,9 +158,14 @@ pub record Tail (rows : List Spanned) (deed : Deed) (p : Spot) (span : Span) : T
 -- what an emitter added ends each path of the deed, by rows of one statement
 pub record Ends (checking : Span) (old new : Emitter) (deed : Deed) : Type 0 where
   pub rows : List Spanned
-  pub plain : are_plain checking rows ≡ true
+  pub plain : are_plain checking checking rows ≡ true
   pub grown : new.code.items ≡ old.code.items ++ rows
   pub tail : Tail rows deed old.place checking
+
+-- at most a byte and a counted opcode for each slot that stood, and one more
+pub record EndCosts (old new : Emitter) : Type 0 where
+  pub bytes_fit : bytes_of new.code.items ≤ bytes_of old.code.items + length old.place.slots + 1
+  pub ops_fit : ops_of new.code.items ≤ ops_of old.code.items + length old.place.slots + 1
 
 -- rows of one statement for instructions that serve no operation
 abbrev pub rows_of : Span → List Instr → List Spanned

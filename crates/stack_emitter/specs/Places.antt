@@ -1,5 +1,5 @@
 -- Where the values stand.
-use Rattle.std.specs.Prelude.{ℕ, List}
+use Rattle.std.specs.Prelude.{List}
 use Rattle.cash_base.specs.declared.place.Slot.{Slot}
 use Rattle.slot_code.specs.Shape.{Operand}
 

@@ -9,7 +9,7 @@ ghost use Rattle.slot_code.specs.Shape.{has};
 ghost use Rattle.slot_liveness.specs.Counts.{is_slot, place_of, less, count_of};
 ghost use Rattle.stack_emitter.specs.Places.{spot};
 ghost use Rattle.stack_emitter.specs.Codes.{bytes_of, ops_of, row_bytes, row_ops};
-ghost use Rattle.stack_emitter.specs.Correct.{Deed, Adds, Ends, Costs, nothing, lit_deed, get_deed, drop_deed, keep_deed, lower_deed, store_deed, pair_deed, check_deed};
+ghost use Rattle.stack_emitter.specs.Correct.{Deed, Adds, Ends, EndCosts, Costs, nothing, lit_deed, get_deed, drop_deed, keep_deed, lower_deed, store_deed, pair_deed, check_deed};
 
 use crate::place::Place;
 use cash_base::element::copy_of;
@@ -83,7 +83,7 @@ impl Emitter {
 
     /// An element.
     pub fn lit(&mut self, element: &Element, doing: Span, checking: Span) -> Result<(), AllocError>
-        ensures emits { OnOk result (Adds checking self.old self.new (lit_deed element.now.items)) }
+        ensures emits { OnOk result (Adds doing checking self.old self.new (lit_deed element.now.items)) }
         ensures code { OnOk result
             (self.new.code.items
             ≡ self.old.code.items ++ record { instr = push element.now.items; doing = doing; checking = checking } ∷ []) }
@@ -102,7 +102,7 @@ impl Emitter {
     fn get(&mut self, slot: Slot, doing: Span, checking: Span) -> Result<(), AllocError>
         requires room { length self.old.place.operands + length self.old.place.slots < 32768 }
         requires defined { IsTrue (has slot self.old.place.slots) }
-        ensures emits { OnOk result (Adds checking self.old self.new (get_deed slot)) }
+        ensures emits { OnOk result (Adds doing checking self.old self.new (get_deed slot)) }
         ensures place { OnOk result (self.new.place ≡ spot (None ∷ self.old.place.operands) self.old.place.slots) }
         ensures costs { OnOk result (Costs self.old self.new 4 1) }
     {
@@ -118,7 +118,7 @@ impl Emitter {
     fn take(&mut self, slot: Slot, doing: Span, checking: Span) -> Result<(), AllocError>
         requires room { length self.old.place.operands + length self.old.place.slots < 32768 }
         requires defined { IsTrue (has slot self.old.place.slots) }
-        ensures emits { OnOk result (Adds checking self.old self.new (get_deed slot)) }
+        ensures emits { OnOk result (Adds doing checking self.old self.new (get_deed slot)) }
         ensures place { OnOk result
             (self.new.place ≡ spot (None ∷ self.old.place.operands) (less slot self.old.place.slots)) }
         ensures costs { OnOk result (Costs self.old self.new 4 1) }
@@ -142,7 +142,7 @@ impl Emitter {
     ) -> Result<(), AllocError>
         requires room { length self.old.place.operands + length self.old.place.slots < 32768 }
         requires defined { IsTrue (has slot self.old.place.slots) }
-        ensures emits { OnOk result (Adds checking self.old self.new (get_deed slot)) }
+        ensures emits { OnOk result (Adds doing checking self.old self.new (get_deed slot)) }
         ensures place { OnOk result
             (self.new.place
             ≡ spot (None ∷ self.old.place.operands) (if kept then self.old.place.slots else less slot self.old.place.slots)) }
@@ -195,7 +195,7 @@ impl Emitter {
     /// The operand is taken away.
     pub fn drop_top(&mut self, checking: Span) -> Result<(), AllocError>
         requires { 1 ≤ length self.old.place.operands }
-        ensures emits { OnOk result ((doing : Span) → Adds checking self.old self.new (drop_deed doing)) }
+        ensures emits { OnOk result ((doing : Span) → Adds checking checking self.old self.new (drop_deed doing)) }
         ensures place { OnOk result (self.new.place ≡ spot (drop 1 self.old.place.operands) self.old.place.slots) }
         ensures costs { OnOk result (Costs self.old self.new 1 1) }
     {
@@ -208,7 +208,7 @@ impl Emitter {
     fn discard(&mut self, slot: Slot, checking: Span) -> Result<(), AllocError>
         requires room { length self.old.place.operands + length self.old.place.slots < 32768 }
         requires defined { IsTrue (has slot self.old.place.slots) }
-        ensures emits { OnOk result (Adds checking self.old self.new nothing) }
+        ensures emits { OnOk result (Adds checking checking self.old self.new nothing) }
         ensures place { OnOk result
             (self.new.place ≡ spot self.old.place.operands (less slot self.old.place.slots)) }
         ensures costs { OnOk result (Costs self.old self.new 4 1) }
@@ -226,7 +226,7 @@ impl Emitter {
     pub fn define(&mut self, slot: Slot) -> Result<(), AllocError>
         requires operand { length self.old.place.operands ≡ 1 }
         requires fresh { has slot self.old.place.slots ≡ false }
-        ensures emits { OnOk result ((doing checking : Span) → Adds checking self.old self.new (store_deed true slot doing)) }
+        ensures emits { OnOk result ((doing checking : Span) → Adds checking checking self.old self.new (store_deed true slot doing)) }
         ensures place { OnOk result (self.new.place ≡ spot [] (slot ∷ self.old.place.slots)) }
         ensures costs { OnOk result (Costs self.old self.new 1 1) }
     {
@@ -240,7 +240,7 @@ impl Emitter {
     pub fn store(&mut self, slot: Slot, kept: bool, checking: Span) -> Result<(), AllocError>
         requires operand { length self.old.place.operands ≡ 1 }
         requires fresh { has slot self.old.place.slots ≡ false }
-        ensures emits { OnOk result ((doing : Span) → Adds checking self.old self.new (store_deed kept slot doing)) }
+        ensures emits { OnOk result ((doing : Span) → Adds checking checking self.old self.new (store_deed kept slot doing)) }
         ensures place { OnOk result
             (self.new.place ≡ spot [] (if kept then slot ∷ self.old.place.slots else self.old.place.slots)) }
         ensures costs { OnOk result (Costs self.old self.new 1 1) }
@@ -257,7 +257,7 @@ impl Emitter {
     /// The lower of two operands is taken away.
     fn drop_lower(&mut self, checking: Span) -> Result<(), AllocError>
         requires { length self.old.place.operands ≡ 2 }
-        ensures emits { OnOk result ((doing : Span) → Adds checking self.old self.new (keep_deed true doing)) }
+        ensures emits { OnOk result ((doing : Span) → Adds checking checking self.old self.new (keep_deed true doing)) }
         ensures place { OnOk result (self.new.place ≡ spot (None ∷ []) self.old.place.slots) }
         ensures costs { OnOk result (Costs self.old self.new 1 1) }
     {
@@ -271,7 +271,7 @@ impl Emitter {
     fn define_lower(&mut self, slot: Slot) -> Result<(), AllocError>
         requires operands { length self.old.place.operands ≡ 2 }
         requires fresh { has slot self.old.place.slots ≡ false }
-        ensures emits { OnOk result ((doing checking : Span) → Adds checking self.old self.new (lower_deed true slot doing)) }
+        ensures emits { OnOk result ((doing checking : Span) → Adds checking checking self.old self.new (lower_deed true slot doing)) }
         ensures place { OnOk result (self.new.place ≡ spot (None ∷ []) (slot ∷ self.old.place.slots)) }
         ensures costs { OnOk result (Costs self.old self.new 1 1) }
     {
@@ -286,7 +286,7 @@ impl Emitter {
     fn store_lower(&mut self, slot: Slot, kept: bool, checking: Span) -> Result<(), AllocError>
         requires operands { length self.old.place.operands ≡ 2 }
         requires fresh { has slot self.old.place.slots ≡ false }
-        ensures emits { OnOk result ((doing : Span) → Adds checking self.old self.new (lower_deed kept slot doing)) }
+        ensures emits { OnOk result ((doing : Span) → Adds checking checking self.old self.new (lower_deed kept slot doing)) }
         ensures place { OnOk result
             (self.new.place ≡ spot (None ∷ []) (if kept then slot ∷ self.old.place.slots else self.old.place.slots)) }
         ensures costs { OnOk result (Costs self.old self.new 1 1) }
@@ -316,7 +316,7 @@ impl Emitter {
         requires fresh_right { has right self.old.place.slots ≡ false }
         requires differ { is_slot right left ≡ false }
         ensures emits { OnOk result
-            ((doing : Span) → Adds checking self.old self.new (pair_deed left_kept right_kept left right doing)) }
+            ((doing : Span) → Adds checking checking self.old self.new (pair_deed left_kept right_kept left right doing)) }
         ensures place { OnOk result
             (self.new.place
             ≡ spot [] (if right_kept then right ∷ (if left_kept then left ∷ self.old.place.slots else self.old.place.slots)
@@ -335,7 +335,7 @@ impl Emitter {
         requires room { length self.old.place.slots ≤ 160 }
         requires defined { IsTrue later → IsTrue (has slot self.old.place.slots) }
         requires once { count_of slot self.old.place.slots ≤ 1 }
-        ensures emits { OnOk result ((doing : Span) → Adds checking self.old self.new (store_deed later slot doing)) }
+        ensures emits { OnOk result ((doing : Span) → Adds checking checking self.old self.new (store_deed later slot doing)) }
         ensures place { OnOk result
             (self.new.place ≡ spot [] (if later then slot ∷ less slot self.old.place.slots else self.old.place.slots)) }
         ensures costs { OnOk result (Costs self.old self.new 5 2) }
@@ -354,7 +354,7 @@ impl Emitter {
     #[tactic(auto, using(slot_liveness::proofs::Counts::less_none, crate::proofs::Emits::adds_none))]
     pub fn forget(&mut self, slot: Slot, checking: Span) -> Result<(), AllocError>
         requires room { length self.old.place.operands + length self.old.place.slots < 32768 }
-        ensures emits { OnOk result (Adds checking self.old self.new nothing) }
+        ensures emits { OnOk result (Adds checking checking self.old self.new nothing) }
         ensures place { OnOk result
             (self.new.place ≡ spot self.old.place.operands (less slot self.old.place.slots)) }
         ensures costs { OnOk result (Costs self.old self.new 4 1) }
@@ -378,11 +378,13 @@ impl Emitter {
         Ok(())
     }
 
-    /// A path's end: the one operand is the value of its last check, and all below it is removed.
-    #[tactic(auto, using(crate::proofs::Tails::ends_alone, crate::proofs::Tails::ends_above))]
+    /// A path's end: the one operand is the value of its last check, and all below it is removed. It costs a byte and a counted
+    /// opcode for each slot, and at most one more.
+    #[tactic(auto, using(crate::proofs::Tails::ends_alone, crate::proofs::Tails::ends_above, crate::proofs::Tails::costs_alone))]
     pub fn finish(&mut self, checking: Span) -> Result<(), AllocError>
         requires { length self.old.place.operands ≡ 1 }
-        ensures { OnOk result ((doing : Span) → Ends checking self.old self.new (check_deed doing checking)) }
+        ensures ends { OnOk result ((doing : Span) → Ends checking self.old self.new (check_deed doing checking)) }
+        ensures costs { OnOk result (EndCosts self.old self.new) }
     {
         let count = self.place.slots().len();
         if count == 0 {
@@ -394,11 +396,13 @@ impl Emitter {
         }
     }
 
-    /// A path's end with no check left: all is removed, and one true element is left.
+    /// A path's end with no check left: all is removed, and one true element is left. It costs a byte and a counted opcode for
+    /// each slot, and at most one more.
     #[tactic(auto, using(crate::proofs::Tails::ends_true))]
     pub fn finish_true(&mut self, checking: Span) -> Result<(), AllocError>
         requires { self.old.place.operands ≡ [] }
-        ensures { OnOk result (Ends checking self.old self.new nothing) }
+        ensures ends { OnOk result (Ends checking self.old self.new nothing) }
+        ensures costs { OnOk result (EndCosts self.old self.new) }
     {
         let count = self.place.slots().len();
         self.repeat(DROP, count, checking)?;

@@ -53,7 +53,7 @@ impl Emitter {
         requires distinct { IsTrue (Slots.are_distinct self.old.place.slots) }
         requires distinct_left { IsTrue (Slots.are_distinct target.now) }
         requires within { IsTrue (all_stand_in target.now self.old.place.slots) }
-        ensures emits { OnOk result (Adds checking self.old self.new nothing) }
+        ensures emits { OnOk result (Adds checking checking self.old self.new nothing) }
         ensures place { OnOk result (self.new.place ≡ spot [] target.now) }
         ensures bytes { OnOk result (bytes_of self.new.code.items ≤ bytes_of self.old.code.items + 5 * length self.old.place.slots) }
         ensures ops { OnOk result (ops_of self.new.code.items ≤ ops_of self.old.code.items + 2 * length self.old.place.slots) }

@@ -117,9 +117,9 @@ chunk_follows d c p few =
     (two_agrees d c p.operands p.slots rest conditions (λ a b. result2 Cat a (pushed_chunk b)) s.operands s.env few fits (λ a b. quiet2 Cat a (pushed_chunk b))))
 
 pub adds_chunk : (old new : Emitter) (d c : Span) → 2 ≤ length old.place.operands → new.code.items ≡ old.code.items ++ rows_of_pieces d c chunk_pieces
-    → new.place ≡ spot (None ∷ drop 2 old.place.operands) old.place.slots → Adds c old new (chunk_deed d)
+    → new.place ≡ spot (None ∷ drop 2 old.place.operands) old.place.slots → Adds d c old new (chunk_deed d)
 adds_chunk old new d c few code place =
-    adds_by c old new (rows_of_pieces d c chunk_pieces) (chunk_deed d) (spot (None ∷ drop 2 old.place.operands) old.place.slots) code place
+    adds_by d c old new (rows_of_pieces d c chunk_pieces) (chunk_deed d) (spot (None ∷ drop 2 old.place.operands) old.place.slots) code place
     (chunk_follows d c old.place few) (pieces_plain d c chunk_pieces chunk_fine)
 
 chunk_bytes_of : (d c : Span) → bytes_of (rows_of_pieces d c chunk_pieces) ≡ 29

@@ -3,7 +3,7 @@ use Rattle.std.proofs.Common.{◌≡◌, ℕ, zero, suc, ◌+◌, ◌^◌, ◌<�
 use Rattle.std.specs.Prelude.{◌&&◌, nat_le, nat_lt, slice_get}
 use Rattle.std.specs.Str.{bytes_eq}
 use Rattle.std.proofs.lemmas.Bool.Decides.{nat_tests}
-use Rattle.std.proofs.lemmas.Bool.{false≢true, and_parts, leb-true, le-leb}
+use Rattle.std.proofs.lemmas.Bool.{false≢true, and_parts, and_from, leb-true, le-leb}
 use Rattle.std.proofs.lemmas.List.{drop-drop, length-take, length-drop}
 use Rattle.std.proofs.lemmas.Slice.Eq.{bytes_eq-Decides}
 use Rattle.cash_base.specs.declared.fault.Cause.{Cause}
@@ -29,9 +29,9 @@ use Rattle.slot_code.specs.Shape.{Operand, counts_fit, has_literal}
 use Rattle.row_runs.specs.Rows.{row, machine, step}
 use Rattle.row_runs.proofs.Turns.{then_ok}
 use Rattle.stack_emitter.specs.Places.{Spot, spot}
-use Rattle.stack_emitter.specs.Codes.{are_sound}
+use Rattle.stack_emitter.specs.Codes.{is_sound, are_sound}
 use Rattle.stack_emitter.specs.Correct.{value, machine_at, Fits, Agrees, Deed, Follows}
-use Rattle.stack_emitter.proofs.Steps.{op, asked, stacked, step_do, op_nested}
+use Rattle.stack_emitter.proofs.Steps.{op, asked, stacked, step_do, op_nested, sound_opcode}
 use Rattle.stack_emitter.proofs.Works.{fits_tail, none_fits, fits_length, gives_agrees}
 use Rattle.stack_emitter.proofs.Quiet.{multi_quiet}
 use Rattle.stack_pieces.proofs.Prefix.{number, read}
@@ -213,7 +213,7 @@ pub many_follows : (sigs keys : ℕ) (d c : Span) (p : Spot) → counts_fit sigs
 unfolding rows
 many_follows sigs keys d c p fit = record {
   nested = op_nested 0xae ChecksMany d c refl;
-  sound = refl;
+  sound = and_from (is_sound (op 0xae)) true (sound_opcode 0xae refl refl refl) refl;
   runs = λ world s rest conditions live fits.
       let under : Stack = map (value s.env) p.slots ++ rest in
       let q = spot (None ∷ drop (keys + sigs + 3) p.operands) p.slots in

@@ -54,7 +54,7 @@ is_fine (Number n) = true
 record Fine (d c : Span) (p : Piece) : Type 0 where
   nested : IsNested (row (piece_instr p) d c ∷ [])
   sound : are_sound (row (piece_instr p) d c ∷ []) ≡ true
-  plain : (rows : List Spanned) → are_plain c rows ≡ true → are_plain c (row (piece_instr p) d c ∷ rows) ≡ true
+  plain : (rows : List Spanned) → are_plain d c rows ≡ true → are_plain d c (row (piece_instr p) d c ∷ rows) ≡ true
   steps : (world : World) (stack : Stack) (conditions : List Bool) → is_live conditions ≡ true
       → step world (row (piece_instr p) d c) (machine stack conditions) ≡ stacked d c conditions (piece_done (asked world) p stack)
 
@@ -94,7 +94,7 @@ pieces_sound d c (p ∷ pieces) h =
     let parts = and_parts (is_fine p) (list_all is_fine pieces) h in
     sound_append (row (piece_instr p) d c ∷ []) (rows_of_pieces d c pieces) (fine d c p parts.0).sound (pieces_sound d c pieces parts.1)
 
-pub pieces_plain : (d c : Span) (pieces : List Piece) → list_all is_fine pieces ≡ true → are_plain c (rows_of_pieces d c pieces) ≡ true
+pub pieces_plain : (d c : Span) (pieces : List Piece) → list_all is_fine pieces ≡ true → are_plain d c (rows_of_pieces d c pieces) ≡ true
 pieces_plain d c [] h = refl
 pieces_plain d c (p ∷ pieces) h =
     let parts = and_parts (is_fine p) (list_all is_fine pieces) h in

@@ -82,7 +82,7 @@ fn put_pieces(
 /// Takes what a script of data has so far and a chunk, and puts the script with the chunk's push: 29 bytes, 21 opcodes.
 pub fn chunk(emitter: &mut Emitter, doing: Span, checking: Span) -> Result<(), AllocError>
     requires { 2 ≤ length emitter.old.place.operands }
-    ensures adds { OnOk result (Adds checking emitter.old emitter.new (chunk_deed doing)) }
+    ensures adds { OnOk result (Adds doing checking emitter.old emitter.new (chunk_deed doing)) }
     ensures place { OnOk result
         (emitter.new.place ≡ spot (None ∷ drop 2 emitter.old.place.operands) emitter.old.place.slots) }
     ensures bytes { OnOk result (bytes_of emitter.new.code.items ≡ bytes_of emitter.old.code.items + 29) }

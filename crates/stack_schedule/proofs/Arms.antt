@@ -7,7 +7,7 @@ use Rattle.source_meaning.specs.declared.outcome.Failure.{Failure}
 use Rattle.slot_code.specs.declared.slots.SlotInstr.{SlotInstr}
 use Rattle.slot_code.specs.Meaning.{State, state}
 use Rattle.slot_code.specs.Shape.{Shape, has, most_slots}
-use Rattle.slot_liveness.specs.Live.{Slots, reads_of, all_later, later, read_in, only_other, either, kept, live}
+use Rattle.slot_liveness.specs.Live.{Slots, reads_of, all_later, read_in, only_other, either, kept, live}
 use Rattle.slot_liveness.specs.Counts.{count_of, IsTight, IsOnce}
 use Rattle.slot_liveness.proofs.Counts.{count_filter}
 use Rattle.slot_liveness.proofs.Sets.{gated, tight_once, tight_head, tight_tail, has_filter, later_split}

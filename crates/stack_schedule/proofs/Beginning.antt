@@ -1,17 +1,20 @@
 -- The whole function: where it begins, and what its run says of the machine's.
 use Rattle.std.proofs.Common.{◌≡◌, ℕ, zero, suc, ◌+◌, ◌≤◌, Bool, true, false, cond, not, List, [], ◌∷◌, ◌++◌, length, map, Option, Some, None, IsSome, Result, Ok, Err, refl, sym, ap, ◌∙◌, subst, arith, inl, inr, append-nil}
 use Rattle.std.specs.Prelude.{◌==◌, ◌||◌, ◌&&◌, nat_le, is_some, slice_get, IsTrue}
+use Rattle.std.specs.List.{list_all}
 use Rattle.std.proofs.lemmas.Bool.{false≢true, and_parts, and_from, eqb-true, leb-true}
 use Rattle.std.proofs.lemmas.List.{length-append}
 use Rattle.cash_base.specs.declared.place.Slot.{Slot}
 use Rattle.cash_base.specs.declared.place.Span.{Span}
 use Rattle.cash_base.specs.Failing.{◌>>=◌}
 use Rattle.tx_context.specs.World.{World}
+use Rattle.script_codec.specs.declared.instr.Instr.{Instr}
+use Rattle.script_codec.specs.declared.instr.Instr.TheVariants.{Push, Do}
 use Rattle.script_codec.specs.declared.spans.Spanned.{Spanned}
 use Rattle.opcode_table.specs.Stack.{Stack}
 use Rattle.bch_vm.specs.Setting.{setting_in}
 use Rattle.bch_vm.specs.Board.{board}
-use Rattle.bch_vm.specs.Law.{are_keys_known}
+use Rattle.bch_vm.specs.Law.{are_keys_known, asks_for_keys}
 use Rattle.bch_vm.specs.Script as script
 use Rattle.bch_vm.specs.Script.{state_of, beginning, run, balanced, run_end}
 use Rattle.source_meaning.specs.declared.outcome.Failure.{Failure}
@@ -19,24 +22,33 @@ use Rattle.source_meaning.specs.Meaning.{Env, ended}
 use Rattle.slot_code.specs.declared.slots.SlotInstr.{SlotInstr}
 use Rattle.slot_code.specs.declared.slots.SlotFunction.{SlotFunction}
 use Rattle.slot_code.specs.Meaning.{State, state, run_of}
-use Rattle.slot_code.specs.Shape.{Place, shapes_of, most_slots, first_slots, start, closed, ends_rightly, IsWellFormed}
+use Rattle.slot_code.specs.Shape.{Place, shapes_of, most_slots, first_slots, start, ends_rightly, IsWellFormed}
 use Rattle.slot_liveness.specs.Live.{later, read_in, hold, kept}
 use Rattle.slot_liveness.specs.Counts.{count_of, IsOnce, IsTight}
 use Rattle.slot_liveness.proofs.Counts.{count_append}
 use Rattle.row_runs.specs.Rows.{instructions, Machine, machine, run_rows, Executed, executed, last_of, Fault}
 use Rattle.run_laws.specs.Nested.{none_open}
-use Rattle.script_codec.specs.Spelling.{is_instruction}
+use Rattle.script_codec.specs.Names.{is_named, are_named}
+use Rattle.script_codec.specs.Spelling.{is_instruction, are_instructions, spellings}
+use Rattle.script_codec.specs.Reading.{reading}
+use Rattle.script_codec.specs.Counting.{number_pushed, key_count, counted_in}
+use Rattle.selector.specs.Pieces.{opcode_weight}
+use Rattle.counting_laws.specs.Counts.{keys_taken, opcodes_in}
+use Rattle.slot_code.specs.Weight.{weighs_of, path_weigh}
+use Rattle.slot_liveness.proofs.Sets.{fits, tight_within}
 use Rattle.row_runs.specs.Code.{is_simple, are_simple, HasLast, EndsAlike, RunsAsCode}
-use Rattle.stack_emitter.specs.Codes.{is_sound, is_depth, are_sound}
+use Rattle.stack_emitter.specs.Codes.{is_sound, is_depth, are_sound, bytes_of, row_ops}
 use Rattle.stack_emitter.specs.Places.{Spot}
 use Rattle.stack_emitter.specs.Correct.{value, Fits, told, EndsIn, FalseEnd}
 use Rattle.stack_steps.specs.declared.low.Low.{Low}
 use Rattle.stack_steps.specs.Lower.{statements_of, place_of}
-use Rattle.stack_steps.specs.Steps.{KeysKnown}
+use Rattle.stack_steps.specs.Steps.{KeysKnown, counted, counted_of}
 use Rattle.stack_steps.proofs.Instrs.{place}
 use Rattle.stack_steps.proofs.Adding.{top_none}
+use Rattle.stack_schedule.specs.Costs.{CountsEnd}
+use Rattle.stack_schedule.specs.Spans.{spans_in, have_places, KeepsSpans, KeepsPlaces}
 use Rattle.stack_schedule.specs.Endings.{PathEnds, Ending, SeenAt, MayEnd, Finishes, path_of}
-use Rattle.stack_schedule.specs.Schedule.{IsStart, Starts, LeavesOne, FailsAt, EndsFalseAt, EndsAs, Decides, EndsItsPath, EndsOnItsOwn, HasForm, seen_at, statements}
+use Rattle.stack_schedule.specs.Schedule.{IsStart, Starts, LeavesOne, FailsAt, EndsFalseAt, EndsAs, Decides, EndsItsPath, EndsOnItsOwn, HasForm, AreNamed, IsWithin, seen_at, statements}
 use Rattle.stack_schedule.proofs.Forks.{path_closed}
 
 -- ---- the slots of the parameters
@@ -252,8 +264,8 @@ sound_simple : (rows : List Spanned) → are_sound rows ≡ true → are_simple 
 sound_simple [] h = refl
 sound_simple (r ∷ rows) h =
     let k = and_parts (is_sound r.instr) (are_sound rows) h in
-    let l = and_parts (is_instruction r.instr) (is_simple r.instr && not (is_depth r.instr)) k.0 in
-    and_from (is_simple r.instr) (are_simple rows) (and_parts (is_simple r.instr) (not (is_depth r.instr)) l.1).0 (sound_simple rows k.1)
+    let l = and_parts (is_instruction r.instr) (is_simple r.instr && (not (is_depth r.instr) && is_named r.instr)) k.0 in
+    and_from (is_simple r.instr) (are_simple rows) (and_parts (is_simple r.instr) (not (is_depth r.instr) && is_named r.instr) l.1).0 (sound_simple rows k.1)
 
 pub starts_as : (f : SlotFunction) (layout : List Slot) (low : Low) → IsWellFormed f → IsStart f layout → Starts f layout low → (body : List SlotInstr) (none : List Slot)
     → body ≡ f.body → none ≡ [] → MayEnd (path_of body) (later body none) (hold body none) low
@@ -289,3 +301,81 @@ module _ (f : SlotFunction) (layout : List Slot) (old new : Low) (well : IsWellF
       by : (o : Option Place) → IsSome o → SeenAt o (statements_of new.marks.items) → statements_of new.marks.items ≡ seen_at o
       by (Some p) h k = sym k
       by None h k = absurd (false≢true h)
+
+-- ---- names of opcodes, and what the code costs
+
+sound_named : (rows : List Spanned) → are_sound rows ≡ true → are_named (instructions rows) ≡ true
+sound_named [] h = refl
+sound_named (r ∷ rows) h =
+    let k = and_parts (is_sound r.instr) (are_sound rows) h in
+    let l = and_parts (is_instruction r.instr) (is_simple r.instr && (not (is_depth r.instr) && is_named r.instr)) k.0 in
+    let m = and_parts (is_simple r.instr) (not (is_depth r.instr) && is_named r.instr) l.1 in
+    and_from (is_named r.instr) (are_named (instructions rows)) (and_parts (not (is_depth r.instr)) (is_named r.instr) m.1).1 (sound_named rows k.1)
+
+sound_spelled : (rows : List Spanned) → are_sound rows ≡ true → are_instructions (instructions rows) ≡ true
+sound_spelled [] h = refl
+sound_spelled (r ∷ rows) h =
+    let k = and_parts (is_sound r.instr) (are_sound rows) h in
+    let l = and_parts (is_instruction r.instr) (is_simple r.instr && (not (is_depth r.instr) && is_named r.instr)) k.0 in
+    and_from (is_instruction r.instr) (are_instructions (instructions rows)) l.0 (sound_spelled rows k.1)
+
+pub form_named : (rows : List Spanned) → HasForm rows → AreNamed rows
+form_named rows h = sound_named rows h.sound
+
+weight_alike : (instr : Instr) → row_ops instr ≡ opcode_weight instr
+weight_alike (Push e) = refl
+weight_alike (Do opcode) = refl
+
+-- what rows count by their instructions, with so many keys pushed before them
+counted_as : (keys : ℕ) (code : List Instr) → counted keys code ≡ keys_taken keys code + opcodes_in code
+unfolding counted
+counted_as keys [] = refl
+counted_as keys (instr ∷ code) =
+    let more = counted_as (key_count (number_pushed instr)) code in let one = weight_alike instr in omega (arith, more, one)
+
+none_taken : (code : List Instr) → keys_taken 0 code ≡ 0
+none_taken [] = refl
+none_taken (instr ∷ code) = by (asks_for_keys instr)
+  where
+    by : (b : Bool) → ◌≡◌ {A = ℕ} (cond b 0 0) 0
+    by true = refl
+    by false = refl
+
+rows_bytes : (rows : List Spanned) → bytes_of rows ≡ length (spellings (instructions rows))
+unfolding bytes_of
+rows_bytes rows = refl
+
+module _ (f : SlotFunction) (layout : List Slot) (old new : Low) (well : IsWellFormed f) (holds : IsStart f layout) (x : Starts f layout old) (body : List SlotInstr) (b : body ≡ f.body) (y : CountsEnd (path_weigh (map weighs_of body)) old new) where
+  spent : CountsEnd (path_weigh (map weighs_of f.body)) old new
+  spent = subst (λ is. CountsEnd (path_weigh (map weighs_of is)) old new) b y
+
+  names : length old.scope ≡ f.ctors + f.params
+  names = ap length x.scope_is ∙ first_length (f.ctors + f.params)
+
+  slots : length old.emitter.place.slots ≤ length old.scope
+  slots = fits old.emitter.place.slots old.scope (tight_within _ old.scope old.emitter.place.slots (starts f layout old well holds x).ready.tight)
+
+  pub schedule_within : ((code : List Instr) → IsTrue (are_instructions code) → counted_in (reading (spellings code)) ≡ opcodes_in code)
+      → HasForm new.emitter.code.items → IsWithin f new.emitter.code.items
+  schedule_within law form =
+      let code = instructions new.emitter.code.items in
+      let n = names in
+      let s = slots in
+      let wb = ap (λ m. (path_weigh (map weighs_of f.body) m).bytes) names in
+      let wo = ap (λ m. (path_weigh (map weighs_of f.body) m).ops) names in
+      let none_b : bytes_of old.emitter.code.items ≡ 0 = ap bytes_of x.code_is ∙ rows_bytes [] in
+      let none_o : counted_of old.emitter.code.items ≡ 0 = ap counted_of x.code_is ∙ counted_as 0 [] in
+      let total = rows_bytes new.emitter.code.items in
+      let count = law code (sound_spelled new.emitter.code.items form.sound) in
+      let same = counted_as 0 code in
+      let none = none_taken code in
+      let fb = spent.bytes_fit in
+      let fo = spent.ops_fit in
+      record { bytes = omega (arith, s, wb, none_b, total, fb); ops = omega (arith, s, wo, none_o, count, same, none, fo) }
+
+-- ---- places
+
+pub schedule_spans : (f : SlotFunction) (layout : List Slot) (old new : Low) → Starts f layout old → (body : List SlotInstr) → body ≡ f.body
+    → KeepsPlaces (f.span ∷ spans_in body) old.emitter new.emitter → KeepsSpans f new.emitter.code.items
+schedule_spans f layout old new x body b keeps holds all =
+    keeps holds (subst (λ is. list_all holds (f.span ∷ spans_in is) ≡ true) (sym b) all) (ap (have_places holds) x.code_is)

@@ -13,7 +13,7 @@ use Rattle.slot_code.specs.declared.slots.SlotKind.TheVariants as SlotKind
 use Rattle.slot_code.specs.declared.slots.SlotKind.TheOpen.{SlotKind-F}
 use Rattle.slot_code.specs.Meaning.{state, act_of, kind_act, on_one}
 use Rattle.slot_code.specs.Shape.{Place, Operand, shapes_of, only_if, with_operands, with_seen, inside, has, most_slots, choice_shape}
-use Rattle.slot_liveness.specs.Live.{Slots, reads_of, kind_reads, later, read_in, only_other, either, kept, live}
+use Rattle.slot_liveness.specs.Live.{Slots, reads_of, kind_reads, read_in, only_other, either, kept, live}
 use Rattle.slot_liveness.specs.Counts.{count_of, IsTight, IsOnce}
 use Rattle.stack_emitter.specs.declared.emit.Emitter.{Emitter}
 use Rattle.stack_emitter.specs.Places.{Spot, spot}
@@ -108,15 +108,15 @@ module _ (instr : SlotInstr) (ys ns : List SlotInstr) (later : Slots) (held : Li
       pub yes_ends : b.emitter.place.operands ≡ []
       yes_ends = b_back.operands
 
-      b_scope : b.scope ≡ old.scope
-      b_scope = b_back.slots_are ∙ m.scope
+      pub yes_scope : b.scope ≡ old.scope
+      yes_scope = b_back.slots_are ∙ m.scope
 
       pub yes_once : IsOnce b.emitter.place.slots
-      yes_once = arm_once ys ns reads later held old.scope never (λ s. refl) a b (in_a.scope_is ∙ m.scope) b_scope y
+      yes_once = arm_once ys ns reads later held old.scope never (λ s. refl) a b (in_a.scope_is ∙ m.scope) yes_scope y
 
       module _ (target : List Slot) (target_is : target ≡ filter (kept later hold) b.emitter.place.slots) where
         target_tight : IsTight (kept later hold) old.scope target
-        target_tight = arm_kept ys ns reads later held old.scope never (λ s. refl) a b (in_a.scope_is ∙ m.scope) b_scope y target target_is
+        target_tight = arm_kept ys ns reads later held old.scope never (λ s. refl) a b (in_a.scope_is ∙ m.scope) yes_scope y target target_is
 
         module _ (j c : Low) (settled : Emits b.emitter j.emitter nothing) (at_j : j.emitter.place ≡ spot [] target) (same_marks : j.marks ≡ b.marks) (in_c : Enters flips instr marked.emitter.place.slots marked.scope marked.scope j c) where
           at_c : place_of c ≡ inside marked.scope (with_seen (place_of b).seen tested)
@@ -139,14 +139,14 @@ module _ (instr : SlotInstr) (ys ns : List SlotInstr) (later : Slots) (held : Li
             pub no_ends : d.emitter.place.operands ≡ []
             no_ends = d_back.operands
 
-            d_scope : d.scope ≡ old.scope
-            d_scope = d_back.slots_are ∙ m.scope
+            pub no_scope : d.scope ≡ old.scope
+            no_scope = d_back.slots_are ∙ m.scope
 
             pub no_once : IsOnce d.emitter.place.slots
-            no_once = arm_once ns ys reads later held old.scope never (swapped ys ns) c d (in_c.scope_is ∙ m.scope) d_scope z
+            no_once = arm_once ns ys reads later held old.scope never (swapped ys ns) c d (in_c.scope_is ∙ m.scope) no_scope z
 
             pub target_within : (s : Slot) → count_of s target ≤ count_of s d.emitter.place.slots
-            target_within = arm_within ns ys reads later held old.scope never (swapped ys ns) c d (in_c.scope_is ∙ m.scope) d_scope z target target_tight
+            target_within = arm_within ns ys reads later held old.scope never (swapped ys ns) c d (in_c.scope_is ∙ m.scope) no_scope z target target_tight
 
             abbrev yes_did : Deed
             yes_did = then_deed y.lowers.did nothing
@@ -160,7 +160,7 @@ module _ (instr : SlotInstr) (ys ns : List SlotInstr) (later : Slots) (held : Li
                 → Does (λ world. act_of world instr) (shapes_of instr).inner (either (reads_of instr) later) later hold old new
             does_choice d' new settled' at_d' code3 at_new in_new out_new marks_new =
                 let at : new.emitter.place ≡ spot [] target = at_new ∙ at_d' in
-                let scope_is : new.scope ≡ old.scope = in_new ∙ d_scope in
+                let scope_is : new.scope ≡ old.scope = in_new ∙ no_scope in
                 let whole : Deed = λ world s. on_one instr.doing s.operands (λ x more. cond (truth_of x) (yes_did world) (no_did world) (state more s.env)) in
                 does_kind instr later hold old marked m ready _ _ _ (at_if instr ys ns e) new whole
                 (emits_choice marked.emitter a.emitter j.emitter c.emitter d'.emitter new.emitter yes_did no_did instr.doing instr.checking if_operand.0 if_operand.1 in_a.code in_a.place_is
@@ -168,8 +168,8 @@ module _ (instr : SlotInstr) (ys ns : List SlotInstr) (later : Slots) (held : Li
                 (emits_then c.emitter d.emitter d'.emitter z.lowers.did nothing z.lowers.emits settled') (at_d' ∙ sym at_j) code3 at_new)
                 (subst (λ l. Same (live old.scope (either reads later)) (live l later) (λ world. kind_act world (SlotKind-F.If (map (act_of world) ys) (map (act_of world) ns)) instr.doing instr.checking) whole) (sym scope_is)
                 (same_lists (live old.scope (either reads later)) (live old.scope later) (λ world. map (act_of world) ys) (λ world. map (act_of world) ns) yes_did no_did instr.doing
-                (arm_same ys ns reads later held old.scope never (λ s. refl) a b (in_a.scope_is ∙ m.scope) b_scope y (λ s h. or_left (read_in ys s) (read_in ns s) h))
-                (arm_same ns ys reads later held old.scope never (swapped ys ns) c d (in_c.scope_is ∙ m.scope) d_scope z (λ s h. or_right (read_in ys s) (read_in ns s) h))))
+                (arm_same ys ns reads later held old.scope never (λ s. refl) a b (in_a.scope_is ∙ m.scope) yes_scope y (λ s h. or_left (read_in ys s) (read_in ns s) h))
+                (arm_same ns ys reads later held old.scope never (swapped ys ns) c d (in_c.scope_is ∙ m.scope) no_scope z (λ s h. or_right (read_in ys s) (read_in ns s) h))))
                 (ap (λ t. option_and_then (choice_shape (map shapes_of ys) (map shapes_of ns)) (only_if t (with_operands [] (place_of marked)))) if_tests.0
                 ∙ choice_is ys ns tested if_tests.1 (place_of b) b_is (place_of d) d_is
                 ∙ ap Some (sym (ap (λ (p : Spot). place p.operands new.scope new.outer (statements_of new.marks.items)) at

@@ -1,40 +1,19 @@
 -- Counts of keys, through choices and to the ends of paths.
 use Rattle.std.proofs.Common.{◌≡◌, Bool, true, false, not, List, [], ◌∷◌, ◌++◌, refl, sym, ap, ◌∙◌, subst}
-use Rattle.std.specs.Prelude.{◌&&◌, ◌||◌}
-use Rattle.std.proofs.lemmas.Bool.{and_parts, and_from}
+use Rattle.std.specs.Prelude.{◌||◌}
+use Rattle.std.proofs.lemmas.Bool.{and_from}
 use Rattle.cash_base.specs.declared.place.Slot.{Slot}
 use Rattle.cash_base.specs.declared.place.Span.{Span}
-use Rattle.script_codec.specs.declared.instr.Instr.{Instr}
 use Rattle.script_codec.specs.declared.spans.Spanned.{Spanned}
-use Rattle.bch_vm.specs.Law.{are_keys_known, asks_for_keys, pushes_key_count}
-use Rattle.row_runs.specs.Rows.{instructions, is_control}
+use Rattle.bch_vm.specs.Law.{are_keys_known, asks_for_keys}
+use Rattle.row_runs.specs.Rows.{instructions}
 use Rattle.row_runs.proofs.Turns.{instructions_append}
 use Rattle.stack_emitter.specs.Places.{Spot, spot}
 use Rattle.stack_emitter.specs.declared.emit.Emitter.{Emitter}
-use Rattle.stack_emitter.specs.Codes.{is_span, is_plain_instr, are_plain}
 use Rattle.stack_emitter.specs.Correct.{Deed, Adds, Ends, nothing}
 use Rattle.stack_emitter.proofs.Choose.{opens, flips, closes}
 use Rattle.stack_steps.specs.Steps.{KeysKnown}
-use Rattle.stack_steps.proofs.Adding.{adds_keys, top_none}
-
-or_right : (x y : Bool) → y ≡ true → (x || y) ≡ true
-or_right true y e = refl
-or_right false y e = e
-
-plain_known : (c : Span) (rows : List Spanned) (before : Bool) → are_plain c rows ≡ true → are_keys_known before (instructions rows) ≡ true
-plain_known c [] before h = refl
-plain_known c (r ∷ rows) before h =
-    let p = and_parts (is_span c r.checking && is_plain_instr r.instr) (are_plain c rows) h in
-    let q = and_parts (is_span c r.checking) (is_plain_instr r.instr) p.0 in
-    let s = and_parts (not (is_control r.instr)) (not (asks_for_keys r.instr)) q.1 in
-    and_from (before || not (asks_for_keys r.instr)) (are_keys_known (pushes_key_count r.instr) (instructions rows))
-    (or_right before (not (asks_for_keys r.instr)) s.1) (plain_known c rows (pushes_key_count r.instr) p.1)
-
-known_then : (a b : List Instr) (before : Bool) → ((x : Bool) → are_keys_known x b ≡ true) → are_keys_known before a ≡ true → are_keys_known before (a ++ b) ≡ true
-known_then [] b before all h = all before
-known_then (i ∷ a) b before all h =
-    let p = and_parts (before || not (asks_for_keys i)) (are_keys_known (pushes_key_count i) a) h in
-    and_from (before || not (asks_for_keys i)) (are_keys_known (pushes_key_count i) (a ++ b)) p.0 (known_then a b (pushes_key_count i) all p.1)
+use Rattle.stack_steps.proofs.Adding.{or_right, plain_known, known_then, adds_keys, top_none}
 
 -- in this code each check of several signatures has its count
 abbrev pub Counted : Emitter → Type 0
@@ -66,11 +45,11 @@ closed_keys old new d c slots grown at k =
 pub closed_counted : (old new : Emitter) (d c : Span) → new.code.items ≡ old.code.items ++ closes d c ∷ [] → Counted old → Counted new
 closed_counted old new d c grown k = row_counted old new (closes d c) grown refl k
 
-pub settled_keys : (c : Span) (old new : Emitter) (slots : List Slot) → Adds c old new nothing → new.place ≡ spot [] slots → KeysKnown old → KeysKnown new
-settled_keys c old new slots x at k = adds_keys c old new nothing x (top_none new [] (ap (λ (p : Spot). p.operands) at) tt) k
+pub settled_keys : (c : Span) (old new : Emitter) (slots : List Slot) → Adds c c old new nothing → new.place ≡ spot [] slots → KeysKnown old → KeysKnown new
+settled_keys c old new slots x at k = adds_keys c c old new nothing x (top_none new [] (ap (λ (p : Spot). p.operands) at) tt) k
 
 pub ended_counted : (c : Span) (old new : Emitter) (deed : Deed) → Ends c old new deed → Counted old → Counted new
-ended_counted c old new deed x k = rows_counted old new x.rows x.grown (λ before. plain_known c x.rows before x.plain) k
+ended_counted c old new deed x k = rows_counted old new x.rows x.grown (λ before. plain_known c c x.rows before x.plain) k
 
 pub keys_from : (a b : Emitter) → a ≡ b → KeysKnown b → KeysKnown a
 keys_from a b e k = subst KeysKnown (sym e) k

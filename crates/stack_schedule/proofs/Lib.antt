@@ -12,3 +12,5 @@ pub mod Beginning
 pub mod Taken
 pub mod Smaller
 pub mod Keys
+pub mod Paid
+pub mod Spans

@@ -1,5 +1,5 @@
 -- Choices in the terms in which the code comes to them.
-use Rattle.std.proofs.Common.{◌≡◌, ◌≤◌, true, List, [], ◌∷◌, ◌++◌, length, ap, ◌∙◌, arith}
+use Rattle.std.proofs.Common.{◌≡◌, ◌≤◌, true, false, List, [], ◌∷◌, ◌++◌, length, ap, ◌∙◌, arith}
 use Rattle.std.specs.Prelude.{◌||◌, filter}
 use Rattle.cash_base.specs.declared.place.Slot.{Slot}
 use Rattle.cash_base.specs.declared.place.Span.{Span}
@@ -9,20 +9,27 @@ use Rattle.slot_code.specs.declared.slots.SlotInstr.{SlotInstr}
 use Rattle.slot_code.specs.declared.slots.SlotKind.TheVariants as SlotKind
 use Rattle.slot_code.specs.Meaning.{act_of}
 use Rattle.slot_code.specs.Shape.{has, shapes_of}
+use Rattle.slot_code.specs.Weight.{weighs_of}
 use Rattle.slot_liveness.specs.Live.{Slots, reads_of, later, only_other, either, kept}
 use Rattle.slot_liveness.specs.Counts.{count_of, IsOnce}
 use Rattle.slot_liveness.proofs.Sets.{fits, tight_within, filter_within}
-use Rattle.stack_emitter.specs.Places.{spot}
+use Rattle.bch_vm.specs.Law.{are_keys_known}
+use Rattle.row_runs.specs.Rows.{instructions}
+use Rattle.stack_emitter.specs.declared.emit.Emitter.{Emitter}
+use Rattle.stack_emitter.specs.Places.{Spot, spot}
 use Rattle.stack_emitter.specs.Correct.{Emits, nothing}
 use Rattle.stack_emitter.proofs.Choose.{opens, flips, closes}
 use Rattle.stack_steps.specs.declared.low.Low.{Low}
 use Rattle.stack_steps.specs.Lower.{statements_of, Ready, Does}
 use Rattle.stack_steps.specs.Operations.{Marks}
+use Rattle.stack_steps.specs.Steps.{Pays}
 use Rattle.stack_schedule.specs.Endings.{MayEnd}
 use Rattle.stack_schedule.proofs.Blocks.{ReadyAll, DoesAll, ready_as, does_as}
 use Rattle.stack_schedule.proofs.Joins.{once_distinct, within_stand}
-use Rattle.stack_schedule.proofs.Chosen.{Enters, yes_begins, yes_ends, yes_once, no_begins, no_ends, no_once, target_within, does_choice}
+use Rattle.stack_schedule.proofs.Chosen.{Enters, yes_begins, yes_ends, yes_scope, yes_once, no_begins, no_ends, no_scope, no_once, target_within, does_choice}
 use Rattle.stack_schedule.proofs.Forks.{fork_yes, fork_no, fork_finishes}
+use Rattle.stack_schedule.specs.Costs.{CountsEnd}
+use Rattle.stack_schedule.proofs.Paid.{block_weigh, tail_weigh, Joins, choice_pays, fork_pays}
 use Rattle.stack_schedule.proofs.Ways.{FinishesOne, FinishesAll, MayEndAll, may_end_as, finishes_with}
 
 enters_as : (opcode_row : Span → Span → Spanned) (instr : SlotInstr) (layout scope outer layout' scope' outer' : List Slot) (old new : Low)
@@ -52,6 +59,9 @@ module _ (instr : SlotInstr) (ys ns rest : List SlotInstr) (after held : List Sl
 
   no_is : no_held ≡ held ++ filter (only_other ns ys) old.scope
   no_is = k.no_is ∙ ap (λ l. held ++ filter (only_other ns ys) l) m.scope
+
+  layout_of : (low : Low) → low.emitter.place ≡ spot [] layout → low.emitter.place.slots ≡ old.emitter.place.slots
+  layout_of low at = ap (λ (p : Spot). p.slots) at ∙ k.layout_is ∙ ap (λ (x : Emitter). x.place.slots) m.emitter
 
   -- ---- one that ends no path
 
@@ -133,6 +143,20 @@ module _ (instr : SlotInstr) (ys ns rest : List SlotInstr) (after held : List Sl
             choice_does last new =
                 does_choice instr ys ns (later rest after) held never old marked m e ready a begun_a b did_yes target target_is j c settled at_j same_marks begun_c d did_no last new
 
+            pub choice_costs : (new : Low) → Pays (block_weigh ys) a b → Pays (block_weigh ns) c d → Joins b.emitter j.emitter → (last : Emitter) → Joins d.emitter last
+                → new.emitter.code.items ≡ last.code.items ++ closes instr.doing instr.checking ∷ [] → new.emitter.place.slots ≡ target
+                → new.scope ≡ d.scope → Pays (weighs_of instr).inner old new
+            choice_costs new in_yes in_no first last second code slots scope_new =
+                choice_pays instr ys ns e old a b c d new j.emitter last (fits old.emitter.place.slots old.scope (tight_within _ old.scope old.emitter.place.slots ready.tight))
+                (in_a.code ∙ ap (λ (x : Emitter). x.code.items ++ opens instr.doing instr.checking ∷ []) m.emitter) (ap length (layout_of a in_a.place_is))
+                (ap length (in_a.scope_is ∙ k.scope_is ∙ m.scope)) in_yes
+                (ap length (yes_scope instr ys ns (later rest after) held never old marked m e ready a begun_a b did_yes))
+                (fits b.emitter.place.slots b.scope (tight_within _ b.scope b.emitter.place.slots y.tight)) first
+                in_c.code (ap length (layout_of c in_c.place_is)) (ap length (in_c.scope_is ∙ k.scope_is ∙ m.scope)) in_no
+                (ap length (no_scope instr ys ns (later rest after) held never old marked m e ready a begun_a b did_yes target target_is j c settled at_j same_marks begun_c d did_no))
+                (fits d.emitter.place.slots d.scope (tight_within _ d.scope d.emitter.place.slots z.tight)) second
+                code (let same = ap length slots in let size = fits target b.emitter.place.slots target_counts in omega (arith, same, size)) (ap length scope_new)
+
   -- ---- one that ends a path
 
   module _ (may : MayEnd (shapes_of instr).last (either (reads_of instr) (later rest after)) (λ s. has s held || never s) old) (outer : List Slot) (none : outer ≡ []) (a : Low) (in_a : Enters opens instr layout scope outer marked a) where
@@ -163,3 +187,12 @@ module _ (instr : SlotInstr) (ys ns rest : List SlotInstr) (after held : List Sl
         path_finishes d z new code marks =
             fork_finishes instr ys ns rest after held never old marked m e may a path_a b ended_yes c path_c d
             (finishes_with instr.checking ns live (filter (later rest after) old.scope) c d live_is z) new code marks
+
+        pub path_costs : (d new : Low) → CountsEnd (tail_weigh ys) a b → CountsEnd (tail_weigh ns) c d
+            → new.emitter.code.items ≡ d.emitter.code.items ++ closes instr.doing instr.checking ∷ []
+            → are_keys_known false (instructions new.emitter.code.items) ≡ true → CountsEnd (weighs_of instr).last old new
+        path_costs d new in_yes in_no code keys =
+            fork_pays instr ys ns e old a b c d new (fits old.emitter.place.slots old.scope (tight_within _ old.scope old.emitter.place.slots may.ready.tight))
+            (in_a.code ∙ ap (λ (x : Emitter). x.code.items ++ opens instr.doing instr.checking ∷ []) m.emitter) (ap length (layout_of a in_a.place_is))
+            (ap length (in_a.scope_is ∙ k.scope_is ∙ m.scope)) in_yes in_c.code (ap length (layout_of c in_c.place_is))
+            (ap length (in_c.scope_is ∙ k.scope_is ∙ m.scope)) in_no code keys

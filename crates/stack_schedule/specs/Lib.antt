@@ -1,2 +1,4 @@
+pub mod Costs
 pub mod Endings
+pub mod Spans
 pub mod Schedule

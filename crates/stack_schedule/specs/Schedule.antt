@@ -10,6 +10,7 @@ use Rattle.cash_base.specs.Number.{truth_of}
 use Rattle.cash_base.specs.Source.{place_in}
 use Rattle.tx_context.specs.World.{World}
 use Rattle.script_codec.specs.declared.spans.Spanned.{Spanned}
+use Rattle.script_codec.specs.Names.{are_named}
 use Rattle.script_codec.specs.Spelling.{spellings}
 use Rattle.script_codec.specs.Reading.{reading}
 use Rattle.script_codec.specs.Counting.{counted_in}
@@ -97,6 +98,10 @@ pub record HasForm (rows : List Spanned) : Type 0 where
 -- each check of several signatures stands directly behind the push of a number of keys from 0 to 20
 abbrev pub CountsKeys : List Spanned → Type 0
 CountsKeys rows = IsTrue (are_keys_known false (instructions rows))
+
+-- each opcode has a name
+abbrev pub AreNamed : List Spanned → Type 0
+AreNamed rows = IsTrue (are_named (instructions rows))
 
 -- ---- marks
 

@@ -1,15 +1,19 @@
 //! Choices, and blocks of instructions.
 
-ghost use Rattle.std.specs.Prelude.{◌≡◌, ◌++◌, ◌∷◌, [], ◌≤◌, OnOk, IfOk, filter, map, length};
+ghost use Rattle.std.specs.Prelude.{◌≡◌, ◌+◌, ◌*◌, ◌++◌, ◌∷◌, [], ◌≤◌, OnOk, IfOk, filter, map, length};
 ghost use Rattle.script_codec.specs.declared.instr.Instr.TheVariants.{Do};
 ghost use Rattle.slot_code.specs.Meaning.{act_of, run_of};
 ghost use Rattle.slot_code.specs.Shape.{shapes_of, all_shapes};
 ghost use Rattle.slot_liveness.specs.Counts.{count_of};
 ghost use Rattle.slot_liveness.specs.Live.{reads_of, later, hold, either, kept, only_other};
+ghost use Rattle.slot_code.specs.Weight.{weighs_of, all_weigh};
 ghost use Rattle.stack_emitter.specs.Places.{spot};
+ghost use Rattle.stack_emitter.specs.Codes.{bytes_of, ops_of};
 ghost use Rattle.stack_emitter.specs.Correct.{Adds, nothing};
 ghost use Rattle.stack_steps.specs.Lower.{Ready, Does};
 ghost use Rattle.stack_steps.specs.Steps.{KeysKnown};
+ghost use Rattle.stack_schedule.specs.Costs.{Counts};
+ghost use Rattle.stack_schedule.specs.Spans.{spans_of, spans_in, KeepsPlaces};
 
 use cash_base::{Memory, Slot, Span};
 use script_codec::{Instr, Opcode};
@@ -128,8 +132,10 @@ fn join(
     requires once { (s : Slot) → count_of s low.old.emitter.place.slots ≤ 1 }
     requires few { length low.old.emitter.place.slots ≤ 160 }
     ensures target { IfOk result (λ target. target ≡ filter (kept (later rest.now after.now) (hold body.now held.now)) low.old.emitter.place.slots) }
-    ensures emits { OnOk result (Adds checking low.old.emitter low.new.emitter nothing) }
+    ensures emits { OnOk result (Adds checking checking low.old.emitter low.new.emitter nothing) }
     ensures place { IfOk result (λ target. low.new.emitter.place ≡ spot [] target) }
+    ensures bytes { OnOk result (bytes_of low.new.emitter.code.items ≤ bytes_of low.old.emitter.code.items + 5 * length low.old.emitter.place.slots) }
+    ensures ops { OnOk result (ops_of low.new.emitter.code.items ≤ ops_of low.old.emitter.code.items + 2 * length low.old.emitter.place.slots) }
     ensures scope { low.new.scope ≡ low.old.scope }
     ensures outer { low.new.outer ≡ low.old.outer }
     ensures marks { low.new.marks ≡ low.old.marks }
@@ -151,7 +157,8 @@ fn lower_all(
 ) -> Result<(), Memory>
     requires { Ready (all_shapes (map shapes_of instrs.now)) (later instrs.now after.now) (hold body.now held.now) low.old }
     ensures does { OnOk result (Does (λ world. run_of world instrs.now) (all_shapes (map shapes_of instrs.now)) (later instrs.now after.now) (later [] after.now) (hold body.now held.now) low.old low.new) }
-    ensures keys { OnOk result (KeysKnown low.old.emitter → KeysKnown low.new.emitter) }
+    ensures counts { OnOk result (KeysKnown low.old.emitter → Counts (all_weigh (map weighs_of instrs.now)) low.old low.new) }
+    ensures places { OnOk result (KeepsPlaces (spans_in instrs.now) low.old.emitter low.new.emitter) }
 {
     for (i, instr) in instrs.iter().enumerate() {
         lower_instr(low, instr, &instrs[i + 1..], after, held, body)?;
@@ -170,7 +177,8 @@ pub(crate) fn lower_instr(
 ) -> Result<(), Memory>
     requires { Ready (shapes_of instr.now).inner (either (reads_of instr.now) (later rest.now after.now)) (hold body.now held.now) low.old }
     ensures does { OnOk result (Does (λ world. act_of world instr.now) (shapes_of instr.now).inner (either (reads_of instr.now) (later rest.now after.now)) (later rest.now after.now) (hold body.now held.now) low.old low.new) }
-    ensures keys { OnOk result (KeysKnown low.old.emitter → KeysKnown low.new.emitter) }
+    ensures counts { OnOk result (KeysKnown low.old.emitter → Counts (weighs_of instr.now).inner low.old low.new) }
+    ensures places { OnOk result (KeepsPlaces (spans_of instr.now) low.old.emitter low.new.emitter) }
 {
     let doing = instr.doing;
     let checking = instr.checking;

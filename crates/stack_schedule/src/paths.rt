@@ -3,10 +3,12 @@
 ghost use Rattle.std.specs.Prelude.{◌≡◌, ◌∷◌, [], OnOk, map};
 ghost use Rattle.slot_code.specs.Meaning.{act_of, run_of};
 ghost use Rattle.slot_code.specs.Shape.{shapes_of};
+ghost use Rattle.slot_code.specs.Weight.{weighs_of, path_weigh};
 ghost use Rattle.slot_liveness.specs.Live.{reads_of, later, hold, either};
 ghost use Rattle.stack_steps.specs.Lower.{IsNoChoice};
 ghost use Rattle.stack_steps.specs.Steps.{KeysKnown};
-ghost use Rattle.stack_schedule.specs.Schedule.{CountsKeys};
+ghost use Rattle.stack_schedule.specs.Costs.{CountsEnd};
+ghost use Rattle.stack_schedule.specs.Spans.{spans_of, spans_in, KeepsPlaces};
 ghost use Rattle.stack_schedule.specs.Endings.{MayEnd, Finishes, PathEnds, path_of, last_meant};
 
 use crate::choices::{ELSE, ENDIF, IF, arms_of, enter, lower_instr};
@@ -42,7 +44,8 @@ pub(crate) fn lower_tail(
 ) -> Result<(), Memory>
     requires { MayEnd (path_of instrs.now) (later instrs.now after.now) (hold body.now held.now) low.old }
     ensures finishes { OnOk result (Finishes (λ world. run_of world instrs.now) (λ world. PathEnds world around instrs.now) (path_of instrs.now) (later instrs.now after.now) low.old low.new) }
-    ensures keys { OnOk result (KeysKnown low.old.emitter → CountsKeys low.new.emitter.code.items) }
+    ensures counts { OnOk result (KeysKnown low.old.emitter → CountsEnd (path_weigh (map weighs_of instrs.now)) low.old low.new) }
+    ensures places { OnOk result (KeepsPlaces (around ∷ spans_in instrs.now) low.old.emitter low.new.emitter) }
 {
     for (i, instr) in instrs.iter().enumerate() {
         let rest = &instrs[i + 1..];
@@ -69,7 +72,8 @@ fn lower_last(
 ) -> Result<(), Memory>
     requires { MayEnd (shapes_of instr.now).last (either (reads_of instr.now) (later rest.now after.now)) (hold body.now held.now) low.old }
     ensures finishes { OnOk result (Finishes (λ world. act_of world instr.now) (last_meant instr.now) (shapes_of instr.now).last (either (reads_of instr.now) (later rest.now after.now)) low.old low.new) }
-    ensures keys { OnOk result (KeysKnown low.old.emitter → CountsKeys low.new.emitter.code.items) }
+    ensures counts { OnOk result (KeysKnown low.old.emitter → CountsEnd (weighs_of instr.now).last low.old low.new) }
+    ensures places { OnOk result (KeepsPlaces (spans_of instr.now) low.old.emitter low.new.emitter) }
 {
     let doing = instr.doing;
     let checking = instr.checking;
@@ -102,7 +106,8 @@ fn last_of_path(
     requires no_choice { IsNoChoice instr.now }
     requires may { MayEnd (shapes_of instr.now).last (either (reads_of instr.now) (later rest.now after.now)) (hold body.now held.now) low.old }
     ensures finishes { OnOk result (Finishes (λ world. act_of world instr.now) (last_meant instr.now) (shapes_of instr.now).last (either (reads_of instr.now) (later rest.now after.now)) low.old low.new) }
-    ensures keys { OnOk result (KeysKnown low.old.emitter → CountsKeys low.new.emitter.code.items) }
+    ensures counts { OnOk result (KeysKnown low.old.emitter → CountsEnd (weighs_of instr.now).last low.old low.new) }
+    ensures places { OnOk result (KeepsPlaces (spans_of instr.now) low.old.emitter low.new.emitter) }
 {
     let checking = instr.checking;
     if let SlotKind::Require = &instr.kind {

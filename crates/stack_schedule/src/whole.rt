@@ -3,12 +3,14 @@
 ghost use Rattle.std.specs.Prelude.{◌≡◌, ◌+◌, ◌≤◌, [], IfOk};
 ghost use Rattle.slot_code.specs.Shape;
 ghost use Rattle.slot_code.specs.Shape.{IsWellFormed};
-ghost use Rattle.stack_schedule.specs.Schedule.{IsStart, Starts, Decides, EndsItsPath, EndsOnItsOwn, HasForm, CountsKeys, statements};
+ghost use Rattle.stack_schedule.specs.Schedule.{IsStart, Starts, Decides, EndsItsPath, EndsOnItsOwn, HasForm, CountsKeys, AreNamed, IsWithin, statements};
+ghost use Rattle.stack_schedule.specs.Spans.{KeepsSpans};
 ghost use Rattle.stack_steps.specs.Lower.{statements_of};
 
 use crate::paths::lower_tail;
 use branch_layout::Layout;
 use cash_base::{Memory, Slot};
+use counting_laws::laws::code_counts;
 use row_runs::rows_run_as_code;
 use script_codec::Marked;
 use slot_code::SlotFunction;
@@ -54,7 +56,8 @@ fn beginning(alloc: Global, function: &SlotFunction, start: &Layout) -> Result<L
 /// met, and else with the same failure at the same place, or with the false value of the failed check alone. The last executed
 /// instruction other than IF, NOTIF, ELSE and ENDIF stands in the statement that ends the path, and there is one. There is a mark for each of the
 /// function's statements, in order. The code is nested, and has no CODESEPARATOR, DEPTH, TOALTSTACK or FROMALTSTACK, and each
-/// check of several signatures stands directly behind the push of its number of keys.
+/// check of several signatures stands directly behind the push of its number of keys. Each opcode has a name, and each place is one
+/// of the function's. The code has at most the bytes and the counted opcodes of the function's weights.
 ///
 /// The only error is that memory ran out.
 pub fn schedule(alloc: Global, function: &SlotFunction, start: &Layout) -> Result<Marked, Memory>
@@ -65,6 +68,9 @@ pub fn schedule(alloc: Global, function: &SlotFunction, start: &Layout) -> Resul
     ensures own { IfOk result (λ marked. EndsOnItsOwn start.now marked.code.items) }
     ensures form { IfOk result (λ marked. HasForm marked.code.items) }
     ensures keys { IfOk result (λ marked. CountsKeys marked.code.items) }
+    ensures named { IfOk result (λ marked. AreNamed marked.code.items) }
+    ensures spans { IfOk result (λ marked. KeepsSpans function.now marked.code.items) }
+    ensures within { IfOk result (λ marked. IsWithin function.now marked.code.items) }
     ensures statements { IfOk result (λ marked. statements_of marked.marks.items ≡ statements function.now) }
 {
     let mut low = beginning(alloc, function, start)?;
@@ -72,6 +78,7 @@ pub fn schedule(alloc: Global, function: &SlotFunction, start: &Layout) -> Resul
     let body = function.body.as_slice();
     lower_tail(&mut low, body, &none, &none, body, function.span)?;
     rows_run_as_code();
+    code_counts();
     let marked = marked_of(low);
     Ok(marked)
 }

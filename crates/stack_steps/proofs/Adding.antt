@@ -21,81 +21,85 @@ use Rattle.stack_emitter.proofs.Sizes.{bytes_append, ops_append}
 use Rattle.stack_steps.specs.declared.low.Low.{Low}
 use Rattle.stack_steps.specs.Steps.{are_told, Tells, Pushed, TopPushed, KeysKnown, counted, counted_of, Pays}
 
-pub plain_told : (c : Span) (rows : List Spanned) → are_plain c rows ≡ true → are_told c rows ≡ true
-plain_told c [] h = refl
-plain_told c (r ∷ rows) h =
-    let p = and_parts (is_span c r.checking && is_plain_instr r.instr) (are_plain c rows) h in
-    let q = and_parts (is_span c r.checking) (is_plain_instr r.instr) p.0 in
+-- plain rows, one by one
+plain_parts : (d c : Span) (r : Spanned) (rows : List Spanned) → are_plain d c (r ∷ rows) ≡ true
+    → ((is_span d r.doing && is_span c r.checking) ≡ true) × (not (is_control r.instr) ≡ true) × (not (asks_for_keys r.instr) ≡ true) × (are_plain d c rows ≡ true)
+plain_parts d c r rows h =
+    let p = and_parts ((is_span d r.doing && is_span c r.checking) && is_plain_instr r.instr) (are_plain d c rows) h in
+    let q = and_parts (is_span d r.doing && is_span c r.checking) (is_plain_instr r.instr) p.0 in
     let s = and_parts (not (is_control r.instr)) (not (asks_for_keys r.instr)) q.1 in
-    and_from (is_span c r.checking && not (is_control r.instr)) (are_told c rows) (and_from (is_span c r.checking) (not (is_control r.instr)) q.0 s.0) (plain_told c rows p.1)
+    (q.0, s.0, s.1, p.1)
 
-or_right : (x y : Bool) → y ≡ true → (x || y) ≡ true
+pub plain_told : (d c : Span) (rows : List Spanned) → are_plain d c rows ≡ true → are_told d c rows ≡ true
+plain_told d c [] h = refl
+plain_told d c (r ∷ rows) h =
+    let p = plain_parts d c r rows h in
+    and_from ((is_span d r.doing && is_span c r.checking) && not (is_control r.instr)) (are_told d c rows)
+    (and_from (is_span d r.doing && is_span c r.checking) (not (is_control r.instr)) p.0 p.1) (plain_told d c rows p.3)
+
+pub or_right : (x y : Bool) → y ≡ true → (x || y) ≡ true
 or_right true y e = refl
 or_right false y e = e
 
 -- plain rows ask for no keys
-plain_known : (c : Span) (rows : List Spanned) (before : Bool) → are_plain c rows ≡ true → are_keys_known before (instructions rows) ≡ true
-plain_known c [] before h = refl
-plain_known c (r ∷ rows) before h =
-    let p = and_parts (is_span c r.checking && is_plain_instr r.instr) (are_plain c rows) h in
-    let q = and_parts (is_span c r.checking) (is_plain_instr r.instr) p.0 in
-    let s = and_parts (not (is_control r.instr)) (not (asks_for_keys r.instr)) q.1 in
+pub plain_known : (d c : Span) (rows : List Spanned) (before : Bool) → are_plain d c rows ≡ true → are_keys_known before (instructions rows) ≡ true
+plain_known d c [] before h = refl
+plain_known d c (r ∷ rows) before h =
+    let p = plain_parts d c r rows h in
     and_from (before || not (asks_for_keys r.instr)) (are_keys_known (pushes_key_count r.instr) (instructions rows))
-    (or_right before (not (asks_for_keys r.instr)) s.1) (plain_known c rows (pushes_key_count r.instr) p.1)
+    (or_right before (not (asks_for_keys r.instr)) p.2) (plain_known d c rows (pushes_key_count r.instr) p.3)
 
 -- what stands behind is known whatever stands before it
-known_then : (a b : List Instr) (before : Bool) → ((x : Bool) → are_keys_known x b ≡ true) → are_keys_known before a ≡ true → are_keys_known before (a ++ b) ≡ true
+pub known_then : (a b : List Instr) (before : Bool) → ((x : Bool) → are_keys_known x b ≡ true) → are_keys_known before a ≡ true → are_keys_known before (a ++ b) ≡ true
 known_then [] b before all h = all before
 known_then (i ∷ a) b before all h =
     let p = and_parts (before || not (asks_for_keys i)) (are_keys_known (pushes_key_count i) a) h in
     and_from (before || not (asks_for_keys i)) (are_keys_known (pushes_key_count i) (a ++ b)) p.0 (known_then a b (pushes_key_count i) all p.1)
 
-pub keys_of : (c : Span) (old new : Emitter) (rows : List Spanned) → new.code.items ≡ old.code.items ++ rows → are_plain c rows ≡ true
+pub keys_of : (d c : Span) (old new : Emitter) (rows : List Spanned) → new.code.items ≡ old.code.items ++ rows → are_plain d c rows ≡ true
     → TopPushed new.place.operands new.code.items → KeysKnown old → KeysKnown new
-keys_of c old new rows grown plain top k = record {
+keys_of d c old new rows grown plain top k = record {
   known = ap (λ l. are_keys_known false (instructions l)) grown ∙ ap (are_keys_known false) (instructions_append old.code.items rows)
-      ∙ known_then (instructions old.code.items) (instructions rows) false (λ x. plain_known c rows x plain) k.known;
+      ∙ known_then (instructions old.code.items) (instructions rows) false (λ x. plain_known d c rows x plain) k.known;
   top = top;
 }
 
-pub adds_keys : (c : Span) (old new : Emitter) (deed : Deed) → Adds c old new deed → TopPushed new.place.operands new.code.items → KeysKnown old → KeysKnown new
-adds_keys c old new deed x top k = keys_of c old new x.emits.rows x.emits.grown x.plain top k
+pub adds_keys : (d c : Span) (old new : Emitter) (deed : Deed) → Adds d c old new deed → TopPushed new.place.operands new.code.items → KeysKnown old → KeysKnown new
+adds_keys d c old new deed x top k = keys_of d c old new x.emits.rows x.emits.grown x.plain top k
 
-pub adds_tells : (c : Span) (old new : Emitter) (deed : Deed) → Adds c old new deed → Tells c old new
-adds_tells c old new deed x = record { rows = x.emits.rows; grown = x.emits.grown; told = plain_told c x.emits.rows x.plain }
+pub adds_tells : (d c : Span) (old new : Emitter) (deed : Deed) → Adds d c old new deed → Tells d c old new
+adds_tells d c old new deed x = record { rows = x.emits.rows; grown = x.emits.grown; told = plain_told d c x.emits.rows x.plain }
 
 pub top_none : (new : Emitter) (operands : List Operand) → new.place.operands ≡ operands → TopPushed operands new.code.items → TopPushed new.place.operands new.code.items
 top_none new operands e t = subst (λ o. TopPushed o new.code.items) (sym e) t
 
 -- ---- counted opcodes
 
-plain_counted : (c : Span) (rows : List Spanned) (keys : ℕ) → are_plain c rows ≡ true → counted keys (instructions rows) ≡ ops_of rows
+plain_counted : (d c : Span) (rows : List Spanned) (keys : ℕ) → are_plain d c rows ≡ true → counted keys (instructions rows) ≡ ops_of rows
 unfolding counted ops_of
-plain_counted c [] keys h = refl
-plain_counted c (r ∷ rows) keys h =
-    let p = and_parts (is_span c r.checking && is_plain_instr r.instr) (are_plain c rows) h in
-    let q = and_parts (is_span c r.checking) (is_plain_instr r.instr) p.0 in
-    let s = and_parts (not (is_control r.instr)) (not (asks_for_keys r.instr)) q.1 in
-    let none = ap (λ b. cond b keys 0) (not-true (asks_for_keys r.instr) s.1) in
-    let more = plain_counted c rows (key_count (number_pushed r.instr)) p.1 in
+plain_counted d c [] keys h = refl
+plain_counted d c (r ∷ rows) keys h =
+    let p = plain_parts d c r rows h in
+    let none = ap (λ b. cond b keys 0) (not-true (asks_for_keys r.instr) p.2) in
+    let more = plain_counted d c rows (key_count (number_pushed r.instr)) p.3 in
     omega (arith, none, more)
 
-counted_then : (a b : List Instr) (keys n : ℕ) → ((k : ℕ) → counted k b ≡ n) → counted keys (a ++ b) ≡ counted keys a + n
+pub counted_then : (a b : List Instr) (keys n : ℕ) → ((k : ℕ) → counted k b ≡ n) → counted keys (a ++ b) ≡ counted keys a + n
 unfolding counted
 counted_then [] b keys n all = let h = all keys in omega (arith, h)
 counted_then (i ∷ a) b keys n all = let h = counted_then a b (key_count (number_pushed i)) n all in omega (arith, h)
 
-pub grown_counted : (c : Span) (old new : Emitter) (rows : List Spanned) → new.code.items ≡ old.code.items ++ rows → are_plain c rows ≡ true
+pub grown_counted : (d c : Span) (old new : Emitter) (rows : List Spanned) → new.code.items ≡ old.code.items ++ rows → are_plain d c rows ≡ true
     → counted_of new.code.items ≡ counted_of old.code.items + ops_of rows
-grown_counted c old new rows grown plain =
+grown_counted d c old new rows grown plain =
     ap counted_of grown ∙ ap (counted 0) (instructions_append old.code.items rows)
-    ∙ counted_then (instructions old.code.items) (instructions rows) 0 (ops_of rows) (λ k. plain_counted c rows k plain)
+    ∙ counted_then (instructions old.code.items) (instructions rows) 0 (ops_of rows) (λ k. plain_counted d c rows k plain)
 
 -- what plain rows cost
-pub adds_ops : (c : Span) (old new : Emitter) (deed : Deed) (o : ℕ) → Adds c old new deed → ops_of new.code.items ≤ ops_of old.code.items + o
+pub adds_ops : (d c : Span) (old new : Emitter) (deed : Deed) (o : ℕ) → Adds d c old new deed → ops_of new.code.items ≤ ops_of old.code.items + o
     → counted_of new.code.items ≤ counted_of old.code.items + o
-adds_ops c old new deed o x h =
-    let e = grown_counted c old new x.emits.rows x.emits.grown x.plain in
+adds_ops d c old new deed o x h =
+    let e = grown_counted d c old new x.emits.rows x.emits.grown x.plain in
     let f = ap ops_of x.emits.grown ∙ ops_append old.code.items x.emits.rows in
     omega (arith, e, f, h)
 
@@ -158,9 +162,9 @@ pub record Spends (old new : Emitter) (bytes ops : ℕ) : Type 0 where
   pub bytes_fit : bytes_of new.code.items + length new.place.slots ≤ bytes_of old.code.items + length old.place.slots + bytes
   pub ops_fit : counted_of new.code.items + length new.place.slots ≤ counted_of old.code.items + length old.place.slots + ops
 
-pub adds_spends : (c : Span) (old new : Emitter) (deed : Deed) (b o : ℕ) → Adds c old new deed → Costs old new b o → Spends old new b o
-adds_spends c old new deed b o x costs =
-    let e = grown_counted c old new x.emits.rows x.emits.grown x.plain in
+pub adds_spends : (d c : Span) (old new : Emitter) (deed : Deed) (b o : ℕ) → Adds d c old new deed → Costs old new b o → Spends old new b o
+adds_spends d c old new deed b o x costs =
+    let e = grown_counted d c old new x.emits.rows x.emits.grown x.plain in
     let f = ap ops_of x.emits.grown ∙ ops_append old.code.items x.emits.rows in
     let i = costs.ops_fit in
     record { bytes_fit = costs.bytes_fit; ops_fit = omega (arith, e, f, i) }

@@ -1,6 +1,8 @@
+pub mod Marked
 pub mod Same
 pub mod AtKinds
 pub mod Weighing
+pub mod PlacesAt
 pub mod Adding
 pub mod Instrs
 pub mod Operations

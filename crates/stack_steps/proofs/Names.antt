@@ -31,26 +31,28 @@ use Rattle.row_runs.specs.Rows.{row}
 use Rattle.slot_code.specs.Weight.{Weighs}
 use Rattle.stack_emitter.specs.Correct.{Costs}
 use Rattle.stack_steps.proofs.Weighing.{weighs_lit}
+use Rattle.stack_steps.proofs.PlacesAt.{places_lit}
 use Rattle.stack_steps.proofs.Adding.{plain_told, adds_keys, adds_spends, top_none}
 
 -- ---- a literal
 
 module _ (instr : SlotInstr) (bytes : List ℕ) (e : instr.kind ≡ SlotKind.Lit (record { items = bytes })) where
-  pub does_lit : (now : Low) (emitter : Emitter) (d : Span) → Adds instr.checking now.emitter emitter (lit_deed bytes)
-      → emitter.code.items ≡ now.emitter.code.items ++ row (push bytes) d instr.checking ∷ []
+  pub does_lit : (now : Low) (emitter : Emitter) → Adds instr.doing instr.checking now.emitter emitter (lit_deed bytes)
+      → emitter.code.items ≡ now.emitter.code.items ++ row (push bytes) instr.doing instr.checking ∷ []
       → Costs now.emitter emitter (length (minimal_push bytes)) 0
       → emitter.place ≡ spot (Some bytes ∷ now.emitter.place.operands) now.emitter.place.slots → Operates instr now (low_of emitter now)
-  does_lit now emitter d x code costs place_is =
+  does_lit now emitter x code costs place_is =
       operates instr _ _ _ (at_lit instr bytes e) (λ s. refl) (λ o. nat_le (length (Some bytes ∷ o)) most_operands) (λ o. Some bytes ∷ o) (λ p. refl)
-      now emitter (length (minimal_push bytes)) 0 (record {
+      now emitter true (length (minimal_push bytes)) 0 (record {
         emits = x.emits;
         place = place_is;
-        told = plain_told instr.checking x.emits.rows x.plain;
-        keys = adds_keys instr.checking now.emitter emitter (lit_deed bytes) x
+        told = plain_told instr.doing instr.checking x.emits.rows x.plain;
+        keys = adds_keys instr.doing instr.checking now.emitter emitter (lit_deed bytes) x
             (top_none emitter (Some bytes ∷ now.emitter.place.operands) (ap (λ (p : Spot). p.operands) place_is)
-            (record { before = now.emitter.code.items; pusher = row (push bytes) d instr.checking; rows_are = code; pushes = refl }));
-        spends = λ k. adds_spends instr.checking now.emitter emitter (lit_deed bytes) (length (minimal_push bytes)) 0 x costs;
+            (record { before = now.emitter.code.items; pusher = row (push bytes) instr.doing instr.checking; rows_are = code; pushes = refl }));
+        spends = λ k. adds_spends instr.doing instr.checking now.emitter emitter (lit_deed bytes) (length (minimal_push bytes)) 0 x costs;
         weighs = ap (λ (w : Weighs). w.inner) (weighs_lit instr bytes e);
+        places = places_lit instr bytes e;
       }) (λ a. same_lit a bytes)
 
 -- ---- tests in turn
@@ -161,7 +163,7 @@ module _ (instr : SlotInstr) (later hold : Slots) (old marked : Low) (m : Marks 
         or_none true = refl
         or_none false = refl
 
-    pub does_define : (emitter : Emitter) (new : Low) (b : Bool) → b ≡ kept later hold slot → ((doing : Span) → Adds instr.checking marked.emitter emitter (store_deed b slot doing))
+    pub does_define : (emitter : Emitter) (new : Low) (b : Bool) → b ≡ kept later hold slot → ((doing : Span) → Adds instr.checking instr.checking marked.emitter emitter (store_deed b slot doing))
         → emitter.place ≡ spot [] (cond b (slot ∷ marked.emitter.place.slots) marked.emitter.place.slots) → new.emitter ≡ emitter → new.scope ≡ marked.scope ++ slot ∷ []
         → new.outer ≡ marked.outer → new.marks ≡ marked.marks
         → Does (λ world. act_of world instr) (shapes_of instr).inner (either (reads_of instr) later) later hold old new
@@ -219,7 +221,7 @@ module _ (instr : SlotInstr) (later hold : Slots) (old marked : Low) (m : Marks 
         ap (has slot) same_slots
         ∙ tight_has (kept later hold) old.scope old.emitter.place.slots slot assign_tight (first_of (later slot) (hold slot) (sym k ∙ h)) (scope_has slot true assign_test)
 
-    pub does_assign : (emitter : Emitter) (b : Bool) → b ≡ later slot → ((doing : Span) → Adds instr.checking marked.emitter emitter (store_deed b slot doing))
+    pub does_assign : (emitter : Emitter) (b : Bool) → b ≡ later slot → ((doing : Span) → Adds instr.checking instr.checking marked.emitter emitter (store_deed b slot doing))
         → emitter.place ≡ spot [] (cond b (slot ∷ less slot marked.emitter.place.slots) marked.emitter.place.slots)
         → Does (λ world. act_of world instr) (shapes_of instr).inner (either (reads_of instr) later) later hold old (low_of emitter marked)
     does_assign emitter b k x place_is =
@@ -290,7 +292,7 @@ module _ (instr : SlotInstr) (later hold : Slots) (old marked : Low) (m : Marks 
     scope_less : less slot old.scope ≡ without slot old.scope
     scope_less = less_is slot old.scope (ready.once slot)
 
-    pub does_end : (emitter : Emitter) (new : Low) → Adds instr.checking marked.emitter emitter nothing
+    pub does_end : (emitter : Emitter) (new : Low) → Adds instr.checking instr.checking marked.emitter emitter nothing
         → emitter.place ≡ spot marked.emitter.place.operands (less slot marked.emitter.place.slots) → new.emitter ≡ emitter → new.scope ≡ without slot marked.scope
         → new.outer ≡ marked.outer → new.marks ≡ marked.marks
         → Does (λ world. act_of world instr) (shapes_of instr).inner (either (reads_of instr) later) later hold old new

@@ -1,5 +1,5 @@
 -- Each kind of instruction that works on operands alone.
-use Rattle.std.proofs.Common.{◌≡◌, ℕ, ◌≤◌, Bool, true, false, List, [], ◌∷◌, ◌++◌, length, drop, None, Result, Ok, Err, refl, sym, ap, ◌∙◌, subst, arith}
+use Rattle.std.proofs.Common.{◌≡◌, ℕ, ◌≤◌, Bool, true, false, List, [], ◌∷◌, ◌++◌, length, drop, None, Result, Ok, Err, refl, sym, ap, ◌∙◌, subst, arith, cond}
 use Rattle.std.specs.Prelude.{◌==◌, ◌||◌, ◌&&◌, nat_le}
 use Rattle.std.proofs.lemmas.Bool.{false≢true, and_parts, and_from, leb-true, eqb-true}
 use Rattle.cash_base.specs.declared.fault.Cause.{Cause}
@@ -40,39 +40,44 @@ use Rattle.stack_emitter.proofs.Quiet.{quiet1, quiet2, quiet3, context_quiet, in
 use Rattle.stack_emitter.proofs.Works.{none_follows, one_follows, two_follows, three_follows, split_follows, size_follows, left_follows, right_follows, check_follows, lock_follows, drop_table, nip_table}
 use Rattle.stack_steps.specs.declared.low.Low.{Low}
 use Rattle.stack_steps.specs.Lower.{Same, place_of}
-use Rattle.stack_steps.specs.Operations.{Started, Operates}
-use Rattle.stack_steps.specs.Steps.{are_told, TopPushed, KeysKnown}
+use Rattle.stack_steps.specs.Operations.{Marks, Started, Operates}
+use Rattle.stack_steps.specs.Steps.{are_told, Placing, stays, places_of, TopPushed, KeysKnown}
 use Rattle.stack_steps.proofs.Same.{same_fewer, same_gives, same_one, same_two, same_three, same_keep, same_split, same_check, same_lock}
 use Rattle.stack_steps.proofs.AtKinds.{At, at_do1, at_do2, at_do3, at_split, at_keep, at_look0, at_look_at, at_check_sig, at_check_data, at_time, at_age, at_require}
 use Rattle.stack_steps.proofs.Adding.{cost, Spends, plain_told, keys_of, top_none, grown_bytes, grown_counted, pays_same, op_bytes, op_ops}
 use Rattle.stack_steps.proofs.Weighing.{weighs_do1, weighs_do2, weighs_do3, weighs_split, weighs_keep, weighs_look0, weighs_look_at, weighs_check_sig, weighs_check_data, weighs_time, weighs_age, weighs_require}
+use Rattle.stack_steps.proofs.PlacesAt.{places_do1, places_do2, places_do3, places_split, places_keep, places_look0, places_look_at, places_check_sig, places_check_data, places_time, places_age, places_require}
 use Rattle.stack_steps.proofs.Instrs.{low_of, operation_test, does_operation}
 
 -- what rows of the instruction added
-pub record Added (instr : SlotInstr) (now : Low) (emitter : Emitter) (deed : Deed) (operands : List Operand) (b o : ℕ) : Type 0 where
+pub record Added (instr : SlotInstr) (now : Low) (emitter : Emitter) (deed : Deed) (operands : List Operand) (serves : Bool) (b o : ℕ) : Type 0 where
   pub emits : Emits now.emitter emitter deed
   pub place : emitter.place ≡ spot operands now.emitter.place.slots
-  pub told : are_told instr.checking emits.rows ≡ true
+  pub told : are_told (cond serves instr.doing instr.checking) instr.checking emits.rows ≡ true
   pub keys : KeysKnown now.emitter → KeysKnown emitter
   pub spends : KeysKnown now.emitter → Spends now.emitter emitter b o
   pub weighs : (weighs_of instr).inner ≡ cost b o
+  pub places : places_of instr ≡ stays serves
 
 -- plain rows
-pub added_plain : (instr : SlotInstr) (now : Low) (emitter : Emitter) (deed : Deed) (operands : List Operand) (b o : ℕ) (rows : List Spanned)
+pub added_plain : (instr : SlotInstr) (now : Low) (emitter : Emitter) (deed : Deed) (operands : List Operand) (serves : Bool) (b o : ℕ) (rows : List Spanned)
     → emitter.code.items ≡ now.emitter.code.items ++ rows → emitter.place ≡ spot operands now.emitter.place.slots
-    → Follows rows deed now.emitter.place (spot operands now.emitter.place.slots) → are_plain instr.checking rows ≡ true → TopPushed operands emitter.code.items
-    → bytes_of rows ≤ b → ops_of rows ≤ o → (weighs_of instr).inner ≡ cost b o → Added instr now emitter deed operands b o
-added_plain instr now emitter deed operands b o rows code place follows plain top few_bytes few_ops weighs =
+    → Follows rows deed now.emitter.place (spot operands now.emitter.place.slots) → are_plain (cond serves instr.doing instr.checking) instr.checking rows ≡ true → TopPushed operands emitter.code.items
+    → bytes_of rows ≤ b → ops_of rows ≤ o → (weighs_of instr).inner ≡ cost b o → places_of instr ≡ stays serves
+    → Added instr now emitter deed operands serves b o
+added_plain instr now emitter deed operands serves b o rows code place follows plain top few_bytes few_ops weighs places =
     let l = ap (λ (p : Spot). length p.slots) place in
     let i = grown_bytes now.emitter emitter rows b code few_bytes in
-    let j = grown_counted instr.checking now.emitter emitter rows code plain in
+    let d = cond serves instr.doing instr.checking in
+    let j = grown_counted d instr.checking now.emitter emitter rows code plain in
     record {
       emits = emits_by now.emitter emitter rows deed (spot operands now.emitter.place.slots) code place follows;
       place = place;
-      told = plain_told instr.checking rows plain;
-      keys = keys_of instr.checking now.emitter emitter rows code plain (top_none emitter operands (ap (λ (p : Spot). p.operands) place) top);
+      told = plain_told d instr.checking rows plain;
+      keys = keys_of d instr.checking now.emitter emitter rows code plain (top_none emitter operands (ap (λ (p : Spot). p.operands) place) top);
       spends = λ k. record { bytes_fit = omega (arith, l, i); ops_fit = omega (arith, l, j, few_ops) };
       weighs = weighs;
+      places = places;
     }
 
 module _ (instr : SlotInstr) (deed : Deed) (shapes : Shapes) (reads : Slots) (at : At instr deed shapes reads) (none : (s : Slot) → reads s ≡ false) (f : List Operand → Bool) (g : List Operand → List Operand) (inner_at : (p : Place) → shapes.inner p ≡ only_if (f p.operands) (with_operands (g p.operands) p)) where
@@ -81,15 +86,20 @@ module _ (instr : SlotInstr) (deed : Deed) (shapes : Shapes) (reads : Slots) (at
       operation_test instr s.later s.hold s.before now s.marks s.ready deed shapes reads at none (f now.emitter.place.operands) (g now.emitter.place.operands)
       (inner_at (place_of now))
 
-  pub operates : (now : Low) (emitter : Emitter) (b o : ℕ) → Added instr now emitter deed (g now.emitter.place.operands) b o
+  pub operates : (now : Low) (emitter : Emitter) (serves : Bool) (b o : ℕ) → Added instr now emitter deed (g now.emitter.place.operands) serves b o
       → ((a : Slots) → Same a a deed deed) → Operates instr now (low_of emitter now)
-  operates now emitter b o x same = record {
+  operates now emitter serves b o x same = record {
     does = λ before later hold marks ready.
         does_operation instr later hold before now marks ready deed shapes reads at none (f now.emitter.place.operands) (g now.emitter.place.operands)
         (inner_at (place_of now)) emitter deed x.emits
         (same_fewer (live before.scope later) (live before.scope later) (live before.scope (either reads later)) (live before.scope later) deed deed
         (λ s e. more s (has s before.scope) (later s) (and_parts (has s before.scope) (later s) e)) (λ s e. e) (same (live before.scope later))) x.place;
-    tells = record { rows = x.emits.rows; grown = x.emits.grown; told = x.told };
+    tells = record {
+      rows = x.emits.rows;
+      grown = x.emits.grown;
+      told = ap (λ (p : Placing). are_told (cond p.serves instr.doing instr.checking) instr.checking x.emits.rows) x.places ∙ x.told;
+    };
+    lays = λ later hold. ap (λ (p : Spot). p.slots) x.place ∙ ap (λ (p : Placing). p.lays later hold now.emitter.place.slots) (sym x.places);
     keys = x.keys;
     pays = λ k. pays_same (weighs_of instr).inner b o now (low_of emitter now) x.weighs refl (x.spends k);
     scope = refl;
@@ -167,21 +177,21 @@ module _ (instr : SlotInstr) (deed : Deed) (shapes : Shapes) (reads : Slots) (at
   pub work_operates : (emitter : Emitter) (b o : ℕ) (added : List Spanned) → emitter.code.items ≡ now.emitter.code.items ++ added
       → emitter.place ≡ spot (None ∷ drop n now.emitter.place.operands) now.emitter.place.slots
       → Follows added deed now.emitter.place (spot (None ∷ drop n now.emitter.place.operands) now.emitter.place.slots)
-      → are_plain instr.checking added ≡ true → bytes_of added ≤ b → ops_of added ≤ o → (weighs_of instr).inner ≡ cost b o
+      → are_plain instr.doing instr.checking added ≡ true → bytes_of added ≤ b → ops_of added ≤ o → (weighs_of instr).inner ≡ cost b o → places_of instr ≡ stays true
       → ((a : Slots) → Same a a deed deed) → Operates instr now (low_of emitter now)
-  work_operates emitter b o added code place_is follows plain few_bytes few_ops weighs same =
-      operates instr deed shapes reads at none (λ o. nat_le n (length o)) (λ o. None ∷ drop n o) inner_at now emitter b o
-      (added_plain instr now emitter deed (None ∷ drop n now.emitter.place.operands) b o added code place_is follows plain tt few_bytes few_ops weighs) same
+  work_operates emitter b o added code place_is follows plain few_bytes few_ops weighs places same =
+      operates instr deed shapes reads at none (λ o. nat_le n (length o)) (λ o. None ∷ drop n o) inner_at now emitter true b o
+      (added_plain instr now emitter deed (None ∷ drop n now.emitter.place.operands) true b o added code place_is follows plain tt few_bytes few_ops weighs places) same
 
   -- by one opcode
   pub work_one : (emitter : Emitter) (opcode : ℕ) (table : TableDeed) → IsOpcode opcode table
       → emitter.code.items ≡ now.emitter.code.items ++ new_row opcode instr ∷ []
       → emitter.place ≡ spot (None ∷ drop n now.emitter.place.operands) now.emitter.place.slots
       → Follows (new_row opcode instr ∷ []) deed now.emitter.place (spot (None ∷ drop n now.emitter.place.operands) now.emitter.place.slots)
-      → (weighs_of instr).inner ≡ cost 1 1 → ((a : Slots) → Same a a deed deed) → Operates instr now (low_of emitter now)
-  work_one emitter opcode table is code place_is follows weighs same =
+      → (weighs_of instr).inner ≡ cost 1 1 → places_of instr ≡ stays true → ((a : Slots) → Same a a deed deed) → Operates instr now (low_of emitter now)
+  work_one emitter opcode table is code place_is follows weighs places same =
       work_operates emitter 1 1 (new_row opcode instr ∷ []) code place_is follows (op_plain opcode instr.doing instr.checking [] is.plain refl)
-      (let e = op_bytes opcode instr.doing instr.checking in omega (arith, e)) (op_ops opcode instr.doing instr.checking) weighs same
+      (let e = op_bytes opcode instr.doing instr.checking in omega (arith, e)) (op_ops opcode instr.doing instr.checking) weighs places same
 
 -- ---- checks of signatures: the machine's verdict is the source's
 
@@ -222,7 +232,7 @@ module _ (instr : SlotInstr) (now : Low) (started : Started instr now) where
         → emitter.place ≡ spot (None ∷ drop 1 now.emitter.place.operands) now.emitter.place.slots → Operates instr now (low_of emitter now)
     does_one opcode is other emitter code place_is =
         work_one instr _ _ _ (at_do1 instr o e) (λ s. refl) 1 (λ p. refl) now emitter opcode (One o) is code place_is
-        (one_follows opcode (One o) (λ world. result1 o) d c now.emitter.place one_few is (λ world stack. refl) (λ world. quiet1 o)) (one_weighs instr o opcode e is other) (λ a. same_one a d (λ world. result1 o))
+        (one_follows opcode (One o) (λ world. result1 o) d c now.emitter.place one_few is (λ world stack. refl) (λ world. quiet1 o)) (one_weighs instr o opcode e is other) (places_do1 instr o e) (λ a. same_one a d (λ world. result1 o))
 
   module _ (e : instr.kind ≡ SlotKind.Do1 Size) where
     pub does_size : (emitter : Emitter) → emitter.code.items ≡ now.emitter.code.items ++ new_row 0x82 instr ∷ new_row 0x77 instr ∷ []
@@ -232,7 +242,7 @@ module _ (instr : SlotInstr) (now : Low) (started : Started instr now) where
         work_operates instr _ _ _ (at_do1 instr Size e) (λ s. refl) 1 (λ p. refl) now emitter 2 2 (new_row 0x82 instr ∷ new_row 0x77 instr ∷ []) code place_is
         (size_follows 0x82 0x77 d c now.emitter.place (one_few Size e) measures nips)
         (op_plain 0x82 d c (new_row 0x77 instr ∷ []) refl (op_plain 0x77 d c [] refl refl)) (two_bytes 0x82 0x77 d c) (two_ops 0x82 0x77 d c)
-        (ap (λ (w : Weighs). w.inner) (weighs_do1 instr Size e)) (λ a. same_one a d (λ world. result1 Size))
+        (ap (λ (w : Weighs). w.inner) (weighs_do1 instr Size e)) (places_do1 instr Size e) (λ a. same_one a d (λ world. result1 Size))
 
   module _ (o : Op2) (e : instr.kind ≡ SlotKind.Do2 o) where
     pub two_few : 2 ≤ length now.emitter.place.operands
@@ -242,7 +252,7 @@ module _ (instr : SlotInstr) (now : Low) (started : Started instr now) where
         → emitter.place ≡ spot (None ∷ drop 2 now.emitter.place.operands) now.emitter.place.slots → Operates instr now (low_of emitter now)
     does_two opcode is emitter code place_is =
         work_one instr _ _ _ (at_do2 instr o e) (λ s. refl) 2 (λ p. refl) now emitter opcode (Two o) is code place_is
-        (two_follows opcode (Two o) (λ world. result2 o) d c now.emitter.place two_few is (λ world stack. refl) (λ world. quiet2 o)) (ap (λ (w : Weighs). w.inner) (weighs_do2 instr o e)) (λ a. same_two a d (λ world. result2 o))
+        (two_follows opcode (Two o) (λ world. result2 o) d c now.emitter.place two_few is (λ world stack. refl) (λ world. quiet2 o)) (ap (λ (w : Weighs). w.inner) (weighs_do2 instr o e)) (places_do2 instr o e) (λ a. same_two a d (λ world. result2 o))
 
   module _ (o : Op3) (e : instr.kind ≡ SlotKind.Do3 o) where
     pub three_few : 3 ≤ length now.emitter.place.operands
@@ -252,7 +262,7 @@ module _ (instr : SlotInstr) (now : Low) (started : Started instr now) where
         → emitter.place ≡ spot (None ∷ drop 3 now.emitter.place.operands) now.emitter.place.slots → Operates instr now (low_of emitter now)
     does_three opcode is emitter code place_is =
         work_one instr _ _ _ (at_do3 instr o e) (λ s. refl) 3 (λ p. refl) now emitter opcode (Three o) is code place_is
-        (three_follows opcode (Three o) (λ world. result3 o) d c now.emitter.place three_few is (λ world stack. refl) (λ world. quiet3 o)) (ap (λ (w : Weighs). w.inner) (weighs_do3 instr o e)) (λ a. same_three a d (λ world. result3 o))
+        (three_follows opcode (Three o) (λ world. result3 o) d c now.emitter.place three_few is (λ world stack. refl) (λ world. quiet3 o)) (ap (λ (w : Weighs). w.inner) (weighs_do3 instr o e)) (places_do3 instr o e) (λ a. same_three a d (λ world. result3 o))
 
   module _ (what : LookAt) (e : instr.kind ≡ SlotKind.LookAt what) where
     pub look_few : 1 ≤ length now.emitter.place.operands
@@ -263,7 +273,7 @@ module _ (instr : SlotInstr) (now : Low) (started : Started instr now) where
     does_look_at opcode is emitter code place_is =
         work_one instr _ _ _ (at_look_at instr what e) (λ s. refl) 1 (λ p. refl) now emitter opcode (AsksAt what) is code place_is
         (one_follows opcode (AsksAt what) (λ world. indexed_value world.context what) d c now.emitter.place look_few is (λ world stack. refl) (λ world. indexed_quiet world.context what))
-        (ap (λ (w : Weighs). w.inner) (weighs_look_at instr what e)) (λ a. same_one a d (λ world. indexed_value world.context what))
+        (ap (λ (w : Weighs). w.inner) (weighs_look_at instr what e)) (places_look_at instr what e) (λ a. same_one a d (λ world. indexed_value world.context what))
 
   module _ (e : instr.kind ≡ SlotKind.CheckSig) where
     pub sig_few : 2 ≤ length now.emitter.place.operands
@@ -277,7 +287,7 @@ module _ (instr : SlotInstr) (now : Low) (started : Started instr now) where
     does_check_sig opcode is emitter code place_is =
         work_one instr _ _ _ (at_check_sig instr e) (λ s. refl) 2 (λ p. refl) now emitter opcode Checks is code place_is
         (two_follows opcode Checks single d c now.emitter.place sig_few is (λ world stack. checks_two single (λ world sig key. single_verdict world.verdicts Single sig key []) (λ world sig key. refl) world stack)
-        (λ world sig key. single_quiet world.verdicts Single sig key [])) (ap (λ (w : Weighs). w.inner) (weighs_check_sig instr e)) (λ a. same_two a d single)
+        (λ world sig key. single_quiet world.verdicts Single sig key [])) (ap (λ (w : Weighs). w.inner) (weighs_check_sig instr e)) (places_check_sig instr e) (λ a. same_two a d single)
 
   module _ (e : instr.kind ≡ SlotKind.CheckData) where
     pub data_few : 3 ≤ length now.emitter.place.operands
@@ -291,7 +301,7 @@ module _ (instr : SlotInstr) (now : Low) (started : Started instr now) where
     does_check_data opcode is emitter code place_is =
         work_one instr _ _ _ (at_check_data instr e) (λ s. refl) 3 (λ p. refl) now emitter opcode ChecksData is code place_is
         (three_follows opcode ChecksData on_data d c now.emitter.place data_few is (λ world stack. checks_three world stack)
-        (λ world sig message key. single_quiet world.verdicts DataSig sig key message)) (ap (λ (w : Weighs). w.inner) (weighs_check_data instr e)) (λ a. same_three a d on_data)
+        (λ world sig message key. single_quiet world.verdicts DataSig sig key message)) (ap (λ (w : Weighs). w.inner) (weighs_check_data instr e)) (places_check_data instr e) (λ a. same_three a d on_data)
 
   module _ (right : Bool) (e : instr.kind ≡ SlotKind.Keep right) where
     pub keep_few : 2 ≤ length now.emitter.place.operands
@@ -302,14 +312,14 @@ module _ (instr : SlotInstr) (now : Low) (started : Started instr now) where
         → emitter.place ≡ spot (None ∷ drop 2 now.emitter.place.operands) now.emitter.place.slots → Operates instr now (low_of emitter now)
     keeps_right is emitter code place_is =
         work_one instr _ _ _ (at_keep instr true e) (λ s. refl) 2 (λ p. refl) now emitter 0x77 nip_table is code place_is
-        (right_follows 0x77 d c now.emitter.place (keep_few true e) is) (ap (λ (w : Weighs). w.inner) (weighs_keep instr true e)) (λ a. same_keep a d true)
+        (right_follows 0x77 d c now.emitter.place (keep_few true e) is) (ap (λ (w : Weighs). w.inner) (weighs_keep instr true e)) (places_keep instr true e) (λ a. same_keep a d true)
 
   module _ (e : instr.kind ≡ SlotKind.Keep false) where
     pub keeps_left : IsOpcode 0x75 drop_table → (emitter : Emitter) → emitter.code.items ≡ now.emitter.code.items ++ new_row 0x75 instr ∷ []
         → emitter.place ≡ spot (None ∷ drop 2 now.emitter.place.operands) now.emitter.place.slots → Operates instr now (low_of emitter now)
     keeps_left is emitter code place_is =
         work_one instr _ _ _ (at_keep instr false e) (λ s. refl) 2 (λ p. refl) now emitter 0x75 drop_table is code place_is
-        (left_follows 0x75 d c now.emitter.place (keep_few false e) is) (ap (λ (w : Weighs). w.inner) (weighs_keep instr false e)) (λ a. same_keep a d false)
+        (left_follows 0x75 d c now.emitter.place (keep_few false e) is) (ap (λ (w : Weighs). w.inner) (weighs_keep instr false e)) (places_keep instr false e) (λ a. same_keep a d false)
 
   -- ---- the others
 
@@ -324,19 +334,19 @@ module _ (instr : SlotInstr) (now : Low) (started : Started instr now) where
     pub does_split : IsOpcode 0x7f Splits → (emitter : Emitter) → emitter.code.items ≡ now.emitter.code.items ++ new_row 0x7f instr ∷ []
         → emitter.place ≡ spot (None ∷ None ∷ drop 2 now.emitter.place.operands) now.emitter.place.slots → Operates instr now (low_of emitter now)
     does_split is emitter code place_is =
-        operates instr _ _ _ (at_split instr e) (λ s. refl) (λ o. nat_le 2 (length o)) (λ o. None ∷ None ∷ drop 2 o) (λ p. refl) now emitter 1 1
-        (added_plain instr now emitter _ (None ∷ None ∷ drop 2 now.emitter.place.operands) 1 1 (new_row 0x7f instr ∷ []) code place_is
+        operates instr _ _ _ (at_split instr e) (λ s. refl) (λ o. nat_le 2 (length o)) (λ o. None ∷ None ∷ drop 2 o) (λ p. refl) now emitter true 1 1
+        (added_plain instr now emitter _ (None ∷ None ∷ drop 2 now.emitter.place.operands) true 1 1 (new_row 0x7f instr ∷ []) code place_is
         (split_follows 0x7f d c now.emitter.place split_few is) (op_plain 0x7f d c [] refl refl) tt
-        (let e = op_bytes 0x7f d c in omega (arith, e)) (op_ops 0x7f d c) (ap (λ (w : Weighs). w.inner) (weighs_split instr e))) (λ a. same_split a d)
+        (let e = op_bytes 0x7f d c in omega (arith, e)) (op_ops 0x7f d c) (ap (λ (w : Weighs). w.inner) (weighs_split instr e)) (places_split instr e)) (λ a. same_split a d)
 
   module _ (what : Look0) (e : instr.kind ≡ SlotKind.Look0 what) where
     pub does_look0 : (opcode : ℕ) → IsOpcode opcode (Asks what) → (emitter : Emitter) → emitter.code.items ≡ now.emitter.code.items ++ new_row opcode instr ∷ []
         → emitter.place ≡ spot (None ∷ now.emitter.place.operands) now.emitter.place.slots → Operates instr now (low_of emitter now)
     does_look0 opcode is emitter code place_is =
-        operates instr _ _ _ (at_look0 instr what e) (λ s. refl) (λ o. nat_le (length (None ∷ o)) most_operands) (λ o. None ∷ o) (λ p. refl) now emitter 1 1
-        (added_plain instr now emitter _ (None ∷ now.emitter.place.operands) 1 1 (new_row opcode instr ∷ []) code place_is
+        operates instr _ _ _ (at_look0 instr what e) (λ s. refl) (λ o. nat_le (length (None ∷ o)) most_operands) (λ o. None ∷ o) (λ p. refl) now emitter true 1 1
+        (added_plain instr now emitter _ (None ∷ now.emitter.place.operands) true 1 1 (new_row opcode instr ∷ []) code place_is
         (none_follows opcode (Asks what) (λ world. context_value world.context what world.redeem) d c now.emitter.place is (λ world stack. refl) (λ world. context_quiet world.context what world.redeem))
-        (op_plain opcode d c [] is.plain refl) tt (let e = op_bytes opcode d c in omega (arith, e)) (op_ops opcode d c) (ap (λ (w : Weighs). w.inner) (weighs_look0 instr what e)))
+        (op_plain opcode d c [] is.plain refl) tt (let e = op_bytes opcode d c in omega (arith, e)) (op_ops opcode d c) (ap (λ (w : Weighs). w.inner) (weighs_look0 instr what e)) (places_look0 instr what e))
         (λ a. same_gives a d (λ world. context_value world.context what world.redeem))
 
   -- a check finds its operand alone
@@ -349,16 +359,16 @@ module _ (instr : SlotInstr) (now : Low) (started : Started instr now) where
     only_one : (1 ≤ length now.emitter.place.operands) × (drop 1 now.emitter.place.operands ≡ [])
     only_one = alone now.emitter.place.operands (test_of instr deed shapes reads at none (λ o. length o == 1) (λ o. []) inner_at now started)
 
-    checks : (emitter : Emitter) (b w : ℕ) (added : List Spanned) → emitter.code.items ≡ now.emitter.code.items ++ added
+    checks : (emitter : Emitter) (serves : Bool) (b w : ℕ) (added : List Spanned) → emitter.code.items ≡ now.emitter.code.items ++ added
         → emitter.place ≡ spot (drop 1 now.emitter.place.operands) now.emitter.place.slots
         → Follows added deed now.emitter.place (spot (drop 1 now.emitter.place.operands) now.emitter.place.slots)
-        → are_plain instr.checking added ≡ true → bytes_of added ≤ b → ops_of added ≤ w → (weighs_of instr).inner ≡ cost b w → ((a : Slots) → Same a a deed deed)
+        → are_plain (cond serves instr.doing instr.checking) instr.checking added ≡ true → bytes_of added ≤ b → ops_of added ≤ w → (weighs_of instr).inner ≡ cost b w → places_of instr ≡ stays serves → ((a : Slots) → Same a a deed deed)
         → Operates instr now (low_of emitter now)
-    checks emitter b w added code place_is follows plain few_bytes few_ops weighs same =
+    checks emitter serves b w added code place_is follows plain few_bytes few_ops weighs places same =
         let none_left : spot (drop 1 now.emitter.place.operands) now.emitter.place.slots ≡ spot [] now.emitter.place.slots = ap (λ o. spot o now.emitter.place.slots) only_one.1 in
-        operates instr deed shapes reads at none (λ o. length o == 1) (λ o. []) inner_at now emitter b w
-        (added_plain instr now emitter deed [] b w added code (place_is ∙ none_left) (subst (λ q. Follows added deed now.emitter.place q) none_left follows)
-        plain tt few_bytes few_ops weighs) same
+        operates instr deed shapes reads at none (λ o. length o == 1) (λ o. []) inner_at now emitter serves b w
+        (added_plain instr now emitter deed [] serves b w added code (place_is ∙ none_left) (subst (λ q. Follows added deed now.emitter.place q) none_left follows)
+        plain tt few_bytes few_ops weighs places) same
 
   module _ (e : instr.kind ≡ SlotKind.Require) where
     pub require_few : 1 ≤ length now.emitter.place.operands
@@ -367,9 +377,9 @@ module _ (instr : SlotInstr) (now : Low) (started : Started instr now) where
     pub does_require : IsOpcode 0x69 Verifies → (emitter : Emitter) → emitter.code.items ≡ now.emitter.code.items ++ new_row 0x69 instr ∷ []
         → emitter.place ≡ spot (drop 1 now.emitter.place.operands) now.emitter.place.slots → Operates instr now (low_of emitter now)
     does_require is emitter code place_is =
-        checks _ _ _ (at_require instr e) (λ s. refl) (λ p. refl) emitter 1 1 (new_row 0x69 instr ∷ []) code place_is
+        checks _ _ _ (at_require instr e) (λ s. refl) (λ p. refl) emitter true 1 1 (new_row 0x69 instr ∷ []) code place_is
         (check_follows 0x69 d c now.emitter.place require_few is) (op_plain 0x69 d c [] refl refl)
-        (let e = op_bytes 0x69 d c in omega (arith, e)) (op_ops 0x69 d c) (ap (λ (w : Weighs). w.inner) (weighs_require instr e)) (λ a. same_check a d c)
+        (let e = op_bytes 0x69 d c in omega (arith, e)) (op_ops 0x69 d c) (ap (λ (w : Weighs). w.inner) (weighs_require instr e)) (places_require instr e) (λ a. same_check a d c)
 
   abbrev pub lock_rows : ℕ → List Spanned
   lock_rows opcode = row (op opcode) instr.checking instr.checking ∷ row (op 0x75) instr.checking instr.checking ∷ []
@@ -381,10 +391,10 @@ module _ (instr : SlotInstr) (now : Low) (started : Started instr now) where
     pub does_time : IsOpcode 0xb1 Waits → IsOpcode 0x75 drop_table → (emitter : Emitter) → emitter.code.items ≡ now.emitter.code.items ++ lock_rows 0xb1
         → emitter.place ≡ spot (drop 1 now.emitter.place.operands) now.emitter.place.slots → Operates instr now (low_of emitter now)
     does_time is drops emitter code place_is =
-        checks _ _ _ (at_time instr e) (λ s. refl) (λ p. refl) emitter 2 2 (lock_rows 0xb1) code place_is
+        checks _ _ _ (at_time instr e) (λ s. refl) (λ p. refl) emitter false 2 2 (lock_rows 0xb1) code place_is
         (lock_follows 0xb1 0x75 Waits (λ world. time_outcome world.context) d c now.emitter.place time_few is drops (λ world stack. refl))
         (op_plain 0xb1 c c (row (op 0x75) c c ∷ []) refl (op_plain 0x75 c c [] refl refl)) (two_bytes 0xb1 0x75 c c) (two_ops 0xb1 0x75 c c)
-        (ap (λ (w : Weighs). w.inner) (weighs_time instr e)) (λ a. same_lock a d c (λ world. time_outcome world.context))
+        (ap (λ (w : Weighs). w.inner) (weighs_time instr e)) (places_time instr e) (λ a. same_lock a d c (λ world. time_outcome world.context))
 
   module _ (e : instr.kind ≡ SlotKind.Age) where
     pub age_few : 1 ≤ length now.emitter.place.operands
@@ -393,7 +403,7 @@ module _ (instr : SlotInstr) (now : Low) (started : Started instr now) where
     pub does_age : IsOpcode 0xb2 Ages → IsOpcode 0x75 drop_table → (emitter : Emitter) → emitter.code.items ≡ now.emitter.code.items ++ lock_rows 0xb2
         → emitter.place ≡ spot (drop 1 now.emitter.place.operands) now.emitter.place.slots → Operates instr now (low_of emitter now)
     does_age is drops emitter code place_is =
-        checks _ _ _ (at_age instr e) (λ s. refl) (λ p. refl) emitter 2 2 (lock_rows 0xb2) code place_is
+        checks _ _ _ (at_age instr e) (λ s. refl) (λ p. refl) emitter false 2 2 (lock_rows 0xb2) code place_is
         (lock_follows 0xb2 0x75 Ages (λ world. age_outcome world.context) d c now.emitter.place age_few is drops (λ world stack. refl))
         (op_plain 0xb2 c c (row (op 0x75) c c ∷ []) refl (op_plain 0x75 c c [] refl refl)) (two_bytes 0xb2 0x75 c c) (two_ops 0xb2 0x75 c c)
-        (ap (λ (w : Weighs). w.inner) (weighs_age instr e)) (λ a. same_lock a d c (λ world. age_outcome world.context))
+        (ap (λ (w : Weighs). w.inner) (weighs_age instr e)) (places_age instr e) (λ a. same_lock a d c (λ world. age_outcome world.context))

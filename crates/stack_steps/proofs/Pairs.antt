@@ -138,7 +138,7 @@ module _ (instr : SlotInstr) (later hold : Slots) (old marked : Low) (m : Marks 
   or_left a b h = ap (λ x. x || b) h
 
   pub does_pair : (emitter : Emitter) (new : Low) (lk rk : Bool) → lk ≡ kept later hold left → rk ≡ kept later hold right
-      → ((doing : Span) → Adds instr.checking marked.emitter emitter (pair_deed lk rk left right doing))
+      → ((doing : Span) → Adds instr.checking instr.checking marked.emitter emitter (pair_deed lk rk left right doing))
       → emitter.place ≡ spot [] (cond rk (right ∷ cond lk (left ∷ marked.emitter.place.slots) marked.emitter.place.slots) (cond lk (left ∷ marked.emitter.place.slots) marked.emitter.place.slots))
       → new.emitter ≡ emitter → new.scope ≡ second → new.outer ≡ marked.outer → new.marks ≡ marked.marks
       → Does (λ world. act_of world instr) (shapes_of instr).inner (either (reads_of instr) later) later hold old new

@@ -8,7 +8,7 @@ use Rattle.slot_code.specs.Weight.{weighs_of}
 use Rattle.slot_liveness.specs.Live.{Slots, reads_of, either}
 use Rattle.stack_steps.specs.declared.low.Low.{Low}
 use Rattle.stack_steps.specs.Lower.{statements_of, Ready, Does}
-use Rattle.stack_steps.specs.Steps.{Tells, KeysKnown, Pays}
+use Rattle.stack_steps.specs.Steps.{Tells, places_of, doing_of, KeysKnown, Pays}
 
 -- the statement at this span has begun, and nothing else was done
 pub record Marks (span : Span) (old new : Low) : Type 0 where
@@ -31,7 +31,8 @@ pub record Operates (instr : SlotInstr) (now new : Low) : Type 0 where
   pub does : (before : Low) (later hold : Slots) → Marks instr.checking before now
       → Ready (shapes_of instr).inner (either (reads_of instr) later) hold before
       → Does (λ world. act_of world instr) (shapes_of instr).inner (either (reads_of instr) later) later hold before new
-  pub tells : Tells instr.checking now.emitter new.emitter
+  pub tells : Tells (doing_of instr) instr.checking now.emitter new.emitter
+  pub lays : (later hold : Slots) → new.emitter.place.slots ≡ (places_of instr).lays later hold now.emitter.place.slots
   pub keys : KeysKnown now.emitter → KeysKnown new.emitter
   pub pays : KeysKnown now.emitter → Pays (weighs_of instr).inner now new
   pub scope : new.scope ≡ now.scope

@@ -51,14 +51,17 @@ fn is_same_span(a: Span, b: Span) -> bool
     a.from == b.from && a.to == b.to
 }
 
-/// Whether a statement has begun.
+/// Whether a statement has begun. Mostly it is the one of the last mark.
+#[tactic(auto, using(crate::proofs::Marked::found, crate::proofs::Marked::not_found))]
 pub fn is_marked(marks: &[Mark], span: Span) -> bool
     ensures { result ≡ has_span span (statements_of marks.now) }
 {
-    for mark in marks {
-        if is_same_span(span, mark.statement) {
+    let mut rest = marks;
+    'rest: while let Some((last, before)) = rest.split_last() {
+        if is_same_span(span, last.statement) {
             return true;
         }
+        rest = before;
     }
     false
 }

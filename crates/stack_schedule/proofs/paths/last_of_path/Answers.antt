@@ -1,7 +1,8 @@
 use Rattle.std.proofs.Common.{refl}
 use Rattle.slot_liveness.specs.Live.{hold}
-use Rattle.stack_schedule.proofs.Keys.{ended_counted, keys_from}
 use Rattle.stack_schedule.proofs.Lasts.{last_ready, last_closed, true_finishes, check_operand, check_finishes}
+use Rattle.stack_schedule.proofs.Paid.{check_counts, true_counts, instr_covers}
+use Rattle.stack_schedule.proofs.Spans.{check_places, true_places}
 use Rattle.stack_schedule.proofs.paths.last_of_path.Goals as goal
 
 pub finish-requires : goal.finish-requires
@@ -10,8 +11,9 @@ finish-requires c =
 
 pub returns-in-Require : goal.returns-in-Require
 returns-in-Require c = record {
-  finishes = check_finishes c.args.instr.now c.args.rest.now c.args.after.now (hold c.args.body.now c.args.held.now) c.args.low.now c.requires.no_choice c.requires.may c.mark.new.self (record { scope = c.mark.ensures.scope; outer = c.mark.ensures.outer; emitter = c.mark.ensures.emitter; seen = c.in_ok-mark.ensures.seen }) c.in-Require.is _ c.in_ok-finish.ensures refl;
-  keys = λ k. ended_counted c.args.instr.now.checking c.mark.new.self.emitter c.finish.new.self _ (c.in_ok-finish.ensures c.args.instr.now.doing) (keys_from c.mark.new.self.emitter c.args.low.now.emitter c.mark.ensures.emitter k).known;
+  finishes = check_finishes c.args.instr.now c.args.rest.now c.args.after.now (hold c.args.body.now c.args.held.now) c.args.low.now c.requires.no_choice c.requires.may c.mark.new.self (record { scope = c.mark.ensures.scope; outer = c.mark.ensures.outer; emitter = c.mark.ensures.emitter; seen = c.in_ok-mark.ensures.seen }) c.in-Require.is _ c.in_ok-finish.ensures.ends refl;
+  counts = λ k. check_counts c.args.instr.now c.args.low.now _ c.mark.new.self.emitter c.args.instr.now.checking _ c.in-Require.is c.mark.ensures.emitter k (c.in_ok-finish.ensures.ends c.args.instr.now.doing) c.in_ok-finish.ensures.costs;
+  places = check_places c.args.instr.now c.args.low.now.emitter c.finish.new.self c.mark.new.self.emitter _ c.mark.ensures.emitter (c.in_ok-finish.ensures.ends c.args.instr.now.doing);
 }
 
 pub step-requires : goal.step-requires
@@ -24,6 +26,7 @@ finish_true-requires c =
 
 pub returns : goal.returns
 returns c = record {
-  finishes = true_finishes c.args.instr.now c.args.rest.now c.args.after.now (hold c.args.body.now c.args.held.now) c.args.low.now c.requires.no_choice c.requires.may c.step.new.self c.in_ok-step.ensures.does _ c.in_ok-finish_true.ensures refl;
-  keys = λ k. ended_counted c.args.instr.now.checking c.step.new.self.emitter c.finish_true.new.self _ c.in_ok-finish_true.ensures (c.in_ok-step.ensures.keys k).known;
+  finishes = true_finishes c.args.instr.now c.args.rest.now c.args.after.now (hold c.args.body.now c.args.held.now) c.args.low.now c.requires.no_choice c.requires.may c.step.new.self c.in_ok-step.ensures.does _ c.in_ok-finish_true.ensures.ends refl;
+  counts = λ k. true_counts c.args.instr.now c.args.low.now c.step.new.self _ c.args.instr.now.checking _ (instr_covers c.args.instr.now c.in_default.not-Require c.requires.no_choice) (record { keys = c.in_ok-step.ensures.keys k; pays = c.in_ok-step.ensures.pays k }) c.in_ok-finish_true.ensures.ends c.in_ok-finish_true.ensures.costs;
+  places = true_places c.args.instr.now c.args.low.now.emitter c.step.new.self.emitter c.finish_true.new.self _ c.in_ok-step.ensures.tells c.in_ok-finish_true.ensures.ends;
 }

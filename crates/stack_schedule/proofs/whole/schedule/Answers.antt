@@ -3,8 +3,9 @@ use Rattle.std.specs.Global.{Vec}
 use Rattle.script_codec.specs.declared.spans.Spanned.{Spanned}
 use Rattle.script_codec.specs.declared.spans.Mark.{Mark}
 use Rattle.stack_steps.specs.Lower.{statements_of}
-use Rattle.stack_schedule.specs.Schedule.{Decides, EndsItsPath, EndsOnItsOwn, HasForm, CountsKeys}
-use Rattle.stack_schedule.proofs.Beginning.{starts_as, schedule_decides, schedule_ends, schedule_own, schedule_form, schedule_statements, starts_known}
+use Rattle.stack_schedule.specs.Schedule.{Decides, EndsItsPath, EndsOnItsOwn, HasForm, CountsKeys, AreNamed, IsWithin}
+use Rattle.stack_schedule.specs.Spans.{KeepsSpans}
+use Rattle.stack_schedule.proofs.Beginning.{starts_as, schedule_decides, schedule_ends, schedule_own, schedule_form, schedule_statements, schedule_within, schedule_spans, form_named, starts_known}
 use Rattle.stack_schedule.proofs.whole.schedule.Goals as goal
 
 pub lower_tail-requires : goal.lower_tail-requires
@@ -33,4 +34,18 @@ returns-clause-statements c =
 
 pub returns-clause-keys : goal.returns-clause-keys
 returns-clause-keys c =
-    subst (λ (code : Vec Spanned). CountsKeys code.items) (sym c.marked_of-marked.ensures.code) (c.in_ok-lower_tail.ensures.keys (starts_known c.args.function.now c.args.start.now _ c.in_ok-low.ensures))
+    subst (λ (code : Vec Spanned). CountsKeys code.items) (sym c.marked_of-marked.ensures.code) (c.in_ok-lower_tail.ensures.counts (starts_known c.args.function.now c.args.start.now _ c.in_ok-low.ensures)).keys
+
+pub returns-clause-named : goal.returns-clause-named
+returns-clause-named c =
+    subst (λ (code : Vec Spanned). AreNamed code.items) (sym c.marked_of-marked.ensures.code) (form_named _ (schedule_form c.args.function.now c.args.start.now c.in_ok-low.low c.lower_tail.new.low c.requires.formed c.requires.holds c.in_ok-low.ensures c.as_slice-body.result.now _ c.as_slice-body.ensures c.new-none.ensures c.in_ok-lower_tail.ensures.finishes c.rows_run_as_code.ensures))
+
+pub returns-clause-within : goal.returns-clause-within
+returns-clause-within c =
+    subst (λ (code : Vec Spanned). IsWithin c.args.function.now code.items) (sym c.marked_of-marked.ensures.code)
+    (schedule_within c.args.function.now c.args.start.now c.in_ok-low.low c.lower_tail.new.low c.requires.formed c.requires.holds c.in_ok-low.ensures c.as_slice-body.result.now c.as_slice-body.ensures (c.in_ok-lower_tail.ensures.counts (starts_known c.args.function.now c.args.start.now _ c.in_ok-low.ensures)) c.code_counts.ensures (schedule_form c.args.function.now c.args.start.now c.in_ok-low.low c.lower_tail.new.low c.requires.formed c.requires.holds c.in_ok-low.ensures c.as_slice-body.result.now _ c.as_slice-body.ensures c.new-none.ensures c.in_ok-lower_tail.ensures.finishes c.rows_run_as_code.ensures))
+
+pub returns-clause-spans : goal.returns-clause-spans
+returns-clause-spans c =
+    subst (λ (code : Vec Spanned). KeepsSpans c.args.function.now code.items) (sym c.marked_of-marked.ensures.code)
+    (schedule_spans c.args.function.now c.args.start.now c.in_ok-low.low c.lower_tail.new.low c.in_ok-low.ensures c.as_slice-body.result.now c.as_slice-body.ensures c.in_ok-lower_tail.ensures.places)

@@ -1,5 +1,4 @@
-use Rattle.std.proofs.Common.{◌≡◌, ap, ◌∙◌, refl, None, ◌∷◌, drop}
-use Rattle.slot_liveness.specs.Counts.{less}
+use Rattle.std.proofs.Common.{ap, ◌∙◌, refl, ◌∷◌}
 use Rattle.stack_emitter.specs.Places.{spot}
 use Rattle.stack_emitter.proofs.Emits.{emits_define, one_gone}
 use Rattle.stack_emitter.proofs.emit.Emitter.define.Goals as goal

@@ -1,4 +1,4 @@
-use Rattle.std.proofs.Common.{◌≡◌, ap, ◌∙◌, refl, [], None, ◌∷◌, drop}
+use Rattle.std.proofs.Common.{ap, ◌∙◌, refl, None, ◌∷◌}
 use Rattle.stack_emitter.specs.Places.{spot}
 use Rattle.stack_emitter.proofs.Emits.{defines_lower, two_gone}
 use Rattle.stack_emitter.proofs.emit.Emitter.define_lower.Goals as goal

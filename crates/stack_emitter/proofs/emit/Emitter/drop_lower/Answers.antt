@@ -1,4 +1,4 @@
-use Rattle.std.proofs.Common.{◌≡◌, ap, ◌∙◌, refl, [], None, ◌∷◌, drop}
+use Rattle.std.proofs.Common.{ap, ◌∙◌, None, ◌∷◌, drop}
 use Rattle.stack_emitter.specs.Places.{spot}
 use Rattle.stack_emitter.proofs.Emits.{drops_lower, two_gone}
 use Rattle.stack_emitter.proofs.emit.Emitter.drop_lower.Goals as goal

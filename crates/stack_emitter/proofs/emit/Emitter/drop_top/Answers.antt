@@ -1,5 +1,4 @@
-use Rattle.std.proofs.Common.{◌≡◌, ap, ◌∙◌, refl, None, ◌∷◌, drop}
-use Rattle.slot_liveness.specs.Counts.{less}
+use Rattle.std.proofs.Common.{ap, ◌∙◌, drop}
 use Rattle.stack_emitter.specs.Places.{spot}
 use Rattle.stack_emitter.proofs.Emits.{emits_drop}
 use Rattle.stack_emitter.proofs.emit.Emitter.drop_top.Goals as goal

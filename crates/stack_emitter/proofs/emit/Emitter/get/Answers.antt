@@ -1,5 +1,4 @@
-use Rattle.std.proofs.Common.{◌≡◌, ap, ◌∙◌, refl, None, ◌∷◌, drop}
-use Rattle.slot_liveness.specs.Counts.{less}
+use Rattle.std.proofs.Common.{ap, ◌∙◌, None, ◌∷◌}
 use Rattle.stack_emitter.specs.Places.{spot}
 use Rattle.stack_emitter.proofs.Emits.{few, gets, two_rows, pushed_row}
 use Rattle.stack_emitter.proofs.emit.Emitter.get.Goals as goal

@@ -1,4 +1,4 @@
-use Rattle.std.proofs.Common.{◌≡◌, ap, ◌∙◌, refl, Some, ◌∷◌}
+use Rattle.std.proofs.Common.{ap, ◌∙◌, refl, Some, ◌∷◌}
 use Rattle.stack_emitter.specs.Places.{spot}
 use Rattle.stack_emitter.proofs.Emits.{emits_lit, pushed_row}
 use Rattle.stack_emitter.proofs.emit.Emitter.lit.Goals as goal

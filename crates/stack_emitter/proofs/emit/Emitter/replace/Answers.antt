@@ -1,6 +1,3 @@
-use Rattle.std.proofs.Common.{◌≡◌, ap, ◌∙◌, refl, None, ◌∷◌, drop}
-use Rattle.slot_liveness.specs.Counts.{less}
-use Rattle.stack_emitter.specs.Places.{spot}
 use Rattle.stack_emitter.proofs.Emits.{stored_again}
 use Rattle.stack_emitter.proofs.emit.Emitter.replace.Goals as goal
 

@@ -1,4 +1,4 @@
-use Rattle.std.proofs.Common.{◌≡◌, ap, ◌∙◌, sym, subst, refl, true, ◌++◌, []}
+use Rattle.std.proofs.Common.{ap, ◌∙◌, sym, subst, ◌++◌, []}
 use Rattle.std.specs.Prelude.{IsTrue}
 use Rattle.branch_layout.specs.Slots.{all_stand_in, kept_of}
 use Rattle.stack_emitter.specs.Places.{spot}

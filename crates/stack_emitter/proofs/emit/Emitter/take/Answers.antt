@@ -1,4 +1,4 @@
-use Rattle.std.proofs.Common.{◌≡◌, ap, ◌∙◌, refl, None, ◌∷◌, drop}
+use Rattle.std.proofs.Common.{ap, ◌∙◌, None, ◌∷◌}
 use Rattle.slot_liveness.specs.Counts.{less}
 use Rattle.stack_emitter.specs.Places.{spot}
 use Rattle.stack_emitter.proofs.Emits.{few, takes, two_rows, pushed_row}

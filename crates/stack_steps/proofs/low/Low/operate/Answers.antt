@@ -1,4 +1,4 @@
-use Rattle.std.proofs.Common.{◌+◌, ◌≤◌, ap, ◌∙◌, sym, subst, None, ◌∷◌, drop, length}
+use Rattle.std.proofs.Common.{◌≡◌, ◌+◌, ◌≤◌, ap, ◌∙◌, sym, subst, None, ◌∷◌, drop, length}
 use Rattle.slot_code.specs.declared.slots.SlotKind.TheVariants.{Do1, Keep}
 use Rattle.stack_emitter.specs.Places.{spot}
 use Rattle.stack_emitter.specs.Codes.{IsOpcode}
