@@ -50,8 +50,8 @@ fn answer(alloc: Global, call: Call) -> Result<String> {
         shown::show_digest(alloc, &mut text, out.bytes())?;
         shown::show_last(&mut text, err.bytes())?;
     } else {
-        shown::show_written(&mut text, "out", out.bytes())?;
-        shown::show_written(&mut text, "err", err.bytes())?;
+        shown::show_written(alloc, &mut text, "out", out.bytes())?;
+        shown::show_written(alloc, &mut text, "err", err.bytes())?;
     }
     Ok(text)
 }

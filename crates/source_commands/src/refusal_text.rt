@@ -1,10 +1,9 @@
 //! How a refusal is printed.
 
 ghost use Rattle.std.specs.Prelude.{◌≡◌, ◌≢◌, ◌≤◌, length, string_bytes, [], IfOk};
-ghost use Rattle.cash_compile.specs.Compile.{IsRefused};
-ghost use Rattle.source_stages.specs.Stages.{IsText};
-ghost use Rattle.cashc.specs.RefusalText;
-ghost use Rattle.cashc.specs.RefusalText.{named_at, at_place, lex_text, parse_text, name_text, type_text, mismatch, typing_text};
+ghost use Rattle.cash_compile.specs.Compile.{IsText, IsRefused};
+ghost use Rattle.source_commands.specs.RefusalText;
+ghost use Rattle.source_commands.specs.RefusalText.{named_at, at_place, lex_text, parse_text, name_text, type_text, mismatch, typing_text};
 
 use cash_base::Memory;
 use cash_compile::Refusal;
