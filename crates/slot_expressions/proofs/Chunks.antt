@@ -1,5 +1,5 @@
 -- Chunks of a script of data: a literal with its prefix, and any other.
-use Rattle.std.proofs.Common.{◌≡◌, ◌≤◌, ◌<◌, ℕ, ◌+◌, ◌*◌, Bool, true, false, List, [], ◌∷◌, ◌++◌, length, Result, Ok, Err, refl, sym, ap, ◌∙◌, subst, arith, append_assoc}
+use Rattle.std.proofs.Common.{◌≡◌, ◌≤◌, ◌<◌, ℕ, Bool, true, false, List, [], ◌∷◌, ◌++◌, length, Result, Ok, Err, refl, sym, ap, ◌∙◌, subst, arith, append_assoc}
 use Rattle.std.specs.Prelude.{Option, Some, None, nat_le, nat_lt, if◌then◌else◌}
 use Rattle.std.proofs.lemmas.Bool.Decides.{nat_tests}
 use Rattle.cash_base.specs.declared.fault.Cause.TheVariants.{Oversize}
@@ -19,21 +19,24 @@ use Rattle.type_tables.specs.declared.rules.CastEffect.TheVariants as effects
 use Rattle.type_tables.specs.Tables.{TypedExpr, cast_effect}
 use Rattle.form_tables.specs.Forms.{cast_result, pushed_chunk}
 use Rattle.source_meaning.specs.declared.outcome.Failure.{Failure}
-use Rattle.source_meaning.specs.Meaning.{Env, Value, One as GivenOne, applied, appended, at_span, element, kind_gives, value_of}
-use Rattle.source_meaning.specs.Runnable.{node_count, kind_count}
+use Rattle.source_meaning.specs.Meaning.{Env, applied, appended, at_span, element, kind_gives, value_of}
+use Rattle.source_meaning.specs.Runnable.{kind_count}
 use Rattle.source_meaning.proofs.Steps as source
 use Rattle.slot_code.specs.declared.slots.SlotInstr.{SlotInstr}
 use Rattle.slot_code.specs.declared.slots.SlotKind.TheVariants as kinds
 use Rattle.slot_code.proofs.Steps as steps
-use Rattle.slot_expressions.specs.Ready.{Known-names, any_name, is_element, is_ready, is_ready_kind, Ready, ReadyKind}
-use Rattle.slot_expressions.specs.Room.{Price, price, ◌⊕◌, one, push_of, other_chunk, chunk_price, cast_spelled, as_chunk, priced, price_of, spelled, spelled_at}
+use Rattle.slot_expressions.specs.Ready.{Known-names, any_name, is_element, is_ready, is_ready_kind, Ready}
+use Rattle.slot_expressions.specs.Room.{price, ◌⊕◌, one, push_of, other_chunk, chunk_price, cast_spelled, as_chunk, priced, price_of, spelled, spelled_at}
 use Rattle.slot_expressions.specs.Rows.{lit}
+use Rattle.slot_expressions.specs.Spans.{own_spans}
 use Rattle.slot_expressions.specs.Pieces.{Gives, Code, LowersElement, LowersChunk, IsSpelled, IsChunk, OtherChunk, keeps, leaves, instruction}
 use Rattle.slot_expressions.proofs.ReadySteps as ready
 use Rattle.slot_expressions.proofs.RoomSteps as room
+use Rattle.slot_expressions.proofs.Spanning.{Covers, covers_as, covers_first, covers_rest, spanned_in, spanned_both, spanned_row}
 use Rattle.slot_expressions.proofs.Lights.{under, light_as, light_row, light_then, lit_weighs}
 use Rattle.slot_expressions.proofs.Standing.{if_true, le_true}
-use Rattle.slot_expressions.proofs.Single.{and_left, and_intro, code_op2, code_of, code_as, code_most, code_ready, code_put, grown1}
+use Rattle.slot_expressions.proofs.Tests.{and_left, and_intro}
+use Rattle.slot_expressions.proofs.Single.{code_op2, code_of, code_as, code_most, code_ready, code_put, grown1}
 use Rattle.slot_expressions.proofs.Acts.{do2_acts, chunk_acts}
 use Rattle.slot_expressions.proofs.Readies.{whole_readies}
 use Rattle.slot_expressions.proofs.Lowered.{bytes_acts, bytes_stand, after}
@@ -150,6 +153,9 @@ lowers_chunk {old} {mid} {new} {checking} {span} {e} other h grown =
       code = λ begun v own most c. chunk_at begun (h.rows ++ i ∷ []) (append_assoc begun h.rows (i ∷ []))
           (code_op2 kinds.Chunk span (λ world x y. at_span span (result2 Cat x (pushed_chunk y))) (chunk_acts span checking) steps.chunk_stands c (code_of h));
       light = light_as (after _ _ other.pays) (light_then kinds.Chunk span checking (price 40 26) steps.chunk_weighs h.light);
+      spans =
+          let covers : Covers (span ∷ own_spans e) (span ∷ own_spans e) = covers_as refl in
+          spanned_both (spanned_in (covers_rest covers) h.spans) (spanned_row kinds.Chunk span checking steps.chunk_spans (covers_first covers));
     }
 
 chunk_same : (r s : Result (List ℕ) Failure) (span : Span) (bytes : List ℕ) → s ≡ Ok bytes
@@ -174,4 +180,7 @@ lowers_spelled {old} {mid} {new} {checking} {span} {e} {bytes} h first second =
           (code_as (λ world env. chunk_same (v world env) (element (value_of world env e)) span bytes (h.whole.gives world env))
           (code_op2 (kinds.Do2 Cat) span (λ world x y. at_span span (result2 Cat x y)) (do2_acts Cat span checking) (steps.do2_stands Cat) c put))));
       light = light_as (under pays) (light_then (kinds.Do2 Cat) span checking one (steps.do2_weighs Cat) (light_row (lit pushed) span checking (push_of pushed) (lit_weighs pushed)));
+      spans =
+          let covers : Covers (span ∷ own_spans e) (span ∷ own_spans e) = covers_as refl in
+          spanned_both (spanned_row (lit pushed) span checking (steps.lit_spans (record { items = pushed })) (covers_first covers)) (spanned_row (kinds.Do2 Cat) span checking (steps.do2_spans Cat) (covers_first covers));
     }

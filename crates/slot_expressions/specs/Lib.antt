@@ -1,4 +1,5 @@
 pub mod Room
+pub mod Spans
 pub mod Ready
 pub mod Pieces
 pub mod Rows

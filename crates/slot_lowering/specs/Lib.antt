@@ -1,5 +1,6 @@
 pub mod Scoped
 pub mod Room
 pub mod Weighed
+pub mod Spans
 pub mod Statements
 pub mod Functions

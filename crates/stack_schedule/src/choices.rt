@@ -13,7 +13,8 @@ ghost use Rattle.stack_emitter.specs.Correct.{Adds, nothing};
 ghost use Rattle.stack_steps.specs.Lower.{Ready, Does};
 ghost use Rattle.stack_steps.specs.Steps.{KeysKnown};
 ghost use Rattle.stack_schedule.specs.Costs.{Counts};
-ghost use Rattle.stack_schedule.specs.Spans.{spans_of, spans_in, KeepsPlaces};
+ghost use Rattle.slot_code.specs.Spans.{spans_of, code_spans};
+ghost use Rattle.stack_schedule.specs.Spans.{KeepsPlaces};
 
 use cash_base::{Memory, Slot, Span};
 use script_codec::{Instr, Opcode};
@@ -158,7 +159,7 @@ fn lower_all(
     requires { Ready (all_shapes (map shapes_of instrs.now)) (later instrs.now after.now) (hold body.now held.now) low.old }
     ensures does { OnOk result (Does (λ world. run_of world instrs.now) (all_shapes (map shapes_of instrs.now)) (later instrs.now after.now) (later [] after.now) (hold body.now held.now) low.old low.new) }
     ensures counts { OnOk result (KeysKnown low.old.emitter → Counts (all_weigh (map weighs_of instrs.now)) low.old low.new) }
-    ensures places { OnOk result (KeepsPlaces (spans_in instrs.now) low.old.emitter low.new.emitter) }
+    ensures places { OnOk result (KeepsPlaces (code_spans instrs.now) low.old.emitter low.new.emitter) }
 {
     for (i, instr) in instrs.iter().enumerate() {
         lower_instr(low, instr, &instrs[i + 1..], after, held, body)?;

@@ -8,7 +8,8 @@ ghost use Rattle.slot_liveness.specs.Live.{reads_of, later, hold, either};
 ghost use Rattle.stack_steps.specs.Lower.{IsNoChoice};
 ghost use Rattle.stack_steps.specs.Steps.{KeysKnown};
 ghost use Rattle.stack_schedule.specs.Costs.{CountsEnd};
-ghost use Rattle.stack_schedule.specs.Spans.{spans_of, spans_in, KeepsPlaces};
+ghost use Rattle.slot_code.specs.Spans.{spans_of, code_spans};
+ghost use Rattle.stack_schedule.specs.Spans.{KeepsPlaces};
 ghost use Rattle.stack_schedule.specs.Endings.{MayEnd, Finishes, PathEnds, path_of, last_meant};
 
 use crate::choices::{ELSE, ENDIF, IF, arms_of, enter, lower_instr};
@@ -45,7 +46,7 @@ pub(crate) fn lower_tail(
     requires { MayEnd (path_of instrs.now) (later instrs.now after.now) (hold body.now held.now) low.old }
     ensures finishes { OnOk result (Finishes (λ world. run_of world instrs.now) (λ world. PathEnds world around instrs.now) (path_of instrs.now) (later instrs.now after.now) low.old low.new) }
     ensures counts { OnOk result (KeysKnown low.old.emitter → CountsEnd (path_weigh (map weighs_of instrs.now)) low.old low.new) }
-    ensures places { OnOk result (KeepsPlaces (around ∷ spans_in instrs.now) low.old.emitter low.new.emitter) }
+    ensures places { OnOk result (KeepsPlaces (around ∷ code_spans instrs.now) low.old.emitter low.new.emitter) }
 {
     for (i, instr) in instrs.iter().enumerate() {
         let rest = &instrs[i + 1..];
