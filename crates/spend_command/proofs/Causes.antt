@@ -7,7 +7,7 @@ use Rattle.command_files.specs.declared.Stop.{Stop}
 use Rattle.command_files.specs.declared.Stop.TheVariants.{Refused, Unread, Memory}
 use Rattle.spend_command.specs.Spent.{IsArtifact, IsReported, IsSpent, IsNoArtifact, IsNoSpend, HasFileRefusal, HasSpendCause}
 
-rose_before : (before mid now : ℕ) → before ≤ mid → Rose mid now → Rose before now
+pub rose_before : (before mid now : ℕ) → before ≤ mid → Rose mid now → Rose before now
 rose_before before mid now later (inl risen) = inl (omega (arith, later, risen))
 rose_before before mid now later (inr last) = inr last
 
