@@ -1,10 +1,12 @@
 //! Code that is made shorter by rewrite rules until none matches.
 #![tactic(auto)]
 
-ghost use Rattle.std.specs.Prelude.{◌≡◌, [], IfOk, IsTrue};
+ghost use Rattle.std.specs.Prelude.{◌≡◌, List, [], IfOk, IsTrue};
+ghost use Rattle.script_codec.specs.declared.spans.Spanned.{Spanned};
 ghost use Rattle.selector.specs.Place.{is_unseparated};
 ghost use Rattle.row_runs.specs.Rows.{instructions};
 ghost use Rattle.peephole.specs.Tidy.{Tidied};
+ghost use Rattle.peephole.specs.Scripts.{RunsAnywhere};
 
 mod tidying;
 
@@ -52,3 +54,14 @@ pub fn tidy(alloc: Global, code: Marked) -> Result<Marked, Memory>
         marks: Vec::new(alloc),
     })
 }
+
+/// A run of rows that have no CODESEPARATOR is the machine's run of their instructions, wherever they stand in the machine's code,
+/// and whatever was executed before them.
+///
+/// Both leave the same stacks and open conditions, or fail for the same cause, the rows at the place of the row that fails. The
+/// machine's last executed instruction other than IF, NOTIF, ELSE and ENDIF has the checking span of the last of these rows; where
+/// none of them is executed, it is the one from before.
+#[tactic(auto, using(crate::proofs::Located::runs_anywhere))]
+pub fn rows_run_anywhere()
+    ensures { (rows : List Spanned) → IsTrue (is_unseparated (instructions rows)) → RunsAnywhere rows }
+{}
