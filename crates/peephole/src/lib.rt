@@ -32,6 +32,7 @@ use tidying::tidied;
 /// - Its list of pairs of spans is that of the code with some left out.
 /// - Where each CHECKMULTISIG and CHECKMULTISIGVERIFY of spelled code stands directly behind the push of a number from 0 to 20, so
 ///   does each of the answer, and it counts no more opcodes.
+/// - Where each opcode of the code has a name, so has each of the answer.
 /// - It has none of DEPTH, TOALTSTACK, FROMALTSTACK and CODESEPARATOR that isn't in the code.
 ///
 /// The rules and these conditions are this project's own.
