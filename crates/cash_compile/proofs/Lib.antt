@@ -1,11 +1,8 @@
-pub mod Accepted
-pub mod Agreement
-pub mod Correct
-pub mod Decided
-pub mod Emits
-pub mod FormShape
-pub mod Places
-pub mod Rows
-pub mod Sizes
+pub mod Spends
+pub mod Alike
+pub mod Chosen
+pub mod Left
 pub mod Slots
+pub mod Whole
+pub mod Described
 pub mod Ways

@@ -7,11 +7,12 @@ use cash_base::{Memory, Span};
 use cash_lexer::LexFault;
 use cash_names::NameFault;
 use cash_parser::ParseFault;
+use script_codec::Instr;
 use std::alloc::AllocError;
 use type_check::TypeFault;
 
 /// Why a source isn't compiled: the first stage that gives nothing, in this order.
-#[derive(Debug, Drop)]
+#[derive(Drop)]
 pub enum Refusal {
     /// It has this number of bytes, more than 65,536.
     SourceTooLong { bytes: u32 },
@@ -25,7 +26,12 @@ pub enum Refusal {
     Name(NameFault),
     /// A node of its named tree has no type. The fault is never want of memory.
     Typing(TypeFault),
-    /// It is well typed, but not of the form that is built so far; the span is that of the contract.
+    /// Its code, which is carried, has this number of bytes, more than the 520 of a redeem script.
+    CodeTooLong { bytes: usize, code: Vec<Instr> },
+    /// Its code, which is carried, has few enough bytes, and counts this number of opcodes, more than the 201 of a script.
+    TooManyOps { count: u32, code: Vec<Instr> },
+    /// Its code is within the limits, but no program tells it: an opcode has no name, or a place lies outside the source. The
+    /// span is that of the contract.
     NotBuilt { span: Span },
     /// Memory ran out.
     Memory,
