@@ -1,6 +1,7 @@
 -- What tidied code keeps of the code of a contract.
 use Rattle.std.specs.Prelude.{Bool, IsTrue, List, map}
 use Rattle.std.specs.List.{list_all}
+use Rattle.cash_base.specs.declared.place.Span.{Span}
 use Rattle.source_meaning.specs.declared.outcome.SourceOutcome.{SourceOutcome}
 use Rattle.tx_context.specs.World.{World}
 use Rattle.script_codec.specs.declared.instr.Instr.{Instr}
@@ -8,7 +9,6 @@ use Rattle.script_codec.specs.declared.spans.Spanned.{Spanned}
 use Rattle.opcode_table.specs.Stack.{Stack}
 use Rattle.bch_vm.specs.Setting.{setting_in}
 use Rattle.bch_vm.specs.Script.{state, run, Progress}
-use Rattle.span_map.specs.declared.SpanRow.{SpanRow}
 use Rattle.row_runs.specs.Rows.{instructions}
 use Rattle.peephole.specs.Tidy.{Tidied}
 use Rattle.tidied_code.specs.Ends.{places, EndsAs}
@@ -26,7 +26,8 @@ KeepsEnds before after = (outcome : SourceOutcome) (world : World) (whole : List
 
 -- The places of its rows are among those of the code: they pass each test that all of these pass.
 abbrev pub KeepsPlaces : List Spanned → List Spanned → Type 0
-KeepsPlaces before after = (test : SpanRow → Bool) → IsTrue (list_all test (map places before)) → IsTrue (list_all test (map places after))
+KeepsPlaces before after = (test : Span → Span → Bool) → IsTrue (list_all (λ (row : Spanned). test row.doing row.checking) before)
+    → IsTrue (list_all (λ (row : Spanned). test row.doing row.checking) after)
 
 pub record Keeps (before after : List Spanned) : Type 0 where
   pub tidied : Tidied before after
