@@ -33,8 +33,7 @@ use Rattle.stack_emitter.specs.Correct.{value}
 use Rattle.stack_schedule.specs.Schedule as scheduled
 use Rattle.stack_schedule.specs.Schedule.{HasForm, EndsOnItsOwn}
 use Rattle.row_runs.specs.Rows.{instructions}
-use Rattle.cash_compile.specs.Describes.{places}
-use Rattle.cash_compile.specs.Runs.{EndsAs}
+use Rattle.tidied_code.specs.Ends.{EndsAs, places}
 use Rattle.cash_compile.specs.Code.{FunctionAgrees}
 
 -- ---- the elements that the first slots hold

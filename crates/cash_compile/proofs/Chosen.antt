@@ -35,9 +35,9 @@ use Rattle.selector.specs.Selection.{behind, IsAlone, Selects}
 use Rattle.selector.proofs.Anywhere.{inside, IsBehind, run_behind, closes}
 use Rattle.unlocker.specs.Scripts.{handed_in}
 use Rattle.row_runs.specs.Rows.{instructions}
-use Rattle.cash_compile.specs.Describes.{places}
+use Rattle.tidied_code.specs.Ends.{LeavesOne, EndsAs, places}
 use Rattle.cash_compile.specs.Correct.{run_of}
-use Rattle.cash_compile.specs.Runs.{start, LeavesOne, EndsAs, AgreesByRun}
+use Rattle.cash_compile.specs.Runs.{start, AgreesByRun}
 use Rattle.cash_compile.specs.Code.{FunctionAgrees}
 
 abbrev pub AreAgreeing : Contract Slot Ty → List Marked → Type 0

@@ -6,6 +6,7 @@ pub mod Slots
 pub mod Placed
 pub mod Priced
 pub mod Whole
+pub mod Tidied
 pub mod Small
 pub mod Runnable
 pub mod Described

@@ -1,7 +1,7 @@
 -- What holds of every span of a contract holds of the places of its code.
 use Rattle.std.proofs.Common.{◌≡◌, ℕ, Bool, true, List, [], ◌∷◌, ◌++◌, map, refl, sym, ◌∙◌, subst}
 use Rattle.std.specs.Prelude.{◌&&◌, nat_le}
-use Rattle.std.specs.List.{AllByRecursion, AllZip, list_all}
+use Rattle.std.specs.List.{AllByRecursion, list_all}
 use Rattle.std.proofs.lemmas.Bool.{and_parts, and_from, leb-true, le-leb}
 use Rattle.std.proofs.lemmas.List.Folds.{list_all-append}
 use Rattle.cash_base.specs.declared.place.Slot.{Slot}
@@ -14,11 +14,11 @@ use Rattle.cash_tree.specs.Nodes.{joined}
 use Rattle.cash_tree.specs.Spans.{nothing as no_name, constraint_spans, param_spans, function_spans, tree_spans}
 use Rattle.script_codec.specs.declared.spans.Spanned.{Spanned}
 use Rattle.script_codec.specs.declared.spans.Marked.{Marked}
-use Rattle.selector.specs.Pieces.{Piece, Own, Function as Piece-function, code_of, functions_of, own_of, IsOwn, AreOwn}
+use Rattle.selector.specs.Pieces.{Piece, Own, Function as Piece-function, code_of, functions_of, own_of, AreOwn}
 use Rattle.stack_schedule.specs.Spans.{have_places}
 use Rattle.artifact_json.specs.Artifact.{IsRowInside}
 use Rattle.artifact_json.specs.Reading.{is_inside}
-use Rattle.cash_compile.specs.Describes.{places}
+use Rattle.tidied_code.specs.Ends.{places}
 
 -- ---- the spans of a contract
 

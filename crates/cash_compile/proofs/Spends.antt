@@ -43,7 +43,8 @@ use Rattle.span_map.specs.declared.SpanRow.{SpanRow}
 use Rattle.span_map.specs.Places.{place_of, place_after}
 use Rattle.unlocker.specs.Scripts.{redeem_code, redeem_script, handed_in, spending_script}
 use Rattle.cash_compile.specs.Correct.{run_of, world_of, spend_in, IsSameCause, Agrees, SpendsAgree, Decides, is_limit, is_limited, MeetsNoLimit}
-use Rattle.cash_compile.specs.Runs.{start, FailsOrEndsFalse, AgreesAlone, DecidesByRun, LeavesOne, EndsAs, AgreesByRun}
+use Rattle.cash_compile.specs.Runs.{start, FailsOrEndsFalse, AgreesAlone, DecidesByRun, AgreesByRun}
+use Rattle.tidied_code.specs.Ends.{LeavesOne, EndsAs}
 
 -- ---- the pushes of the constructor's elements
 

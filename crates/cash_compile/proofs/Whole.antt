@@ -35,7 +35,8 @@ use Rattle.stack_schedule.specs.Spans.{have_places}
 use Rattle.span_map.specs.declared.SpanRow.{SpanRow}
 use Rattle.artifact_json.specs.Artifact.{Artifact, HasFewInputs, HasRows, IsRowInside, is_spelled, AbiCall}
 use Rattle.typed_sources.specs.Fits.{Fits}
-use Rattle.cash_compile.specs.Describes.{places, described_param, described_function, lossy_at, DescribesBy, Describes}
+use Rattle.cash_compile.specs.Describes.{described_param, described_function, lossy_at, DescribesBy, Describes}
+use Rattle.tidied_code.specs.Ends.{places}
 use Rattle.cash_compile.specs.Correct.{SpendsAgree}
 use Rattle.cash_compile.specs.Runs.{DecidesByRun}
 use Rattle.cash_compile.specs.Compile.{IsAccepted}

@@ -22,8 +22,8 @@ use Rattle.slot_code.specs.Shape.{first_slots}
 use Rattle.stack_schedule.specs.Schedule as scheduled
 use Rattle.stack_schedule.specs.Spans.{have_places, KeepsSpans}
 use Rattle.row_runs.specs.Rows.{instructions}
-use Rattle.cash_compile.specs.Describes.{places}
-use Rattle.cash_compile.specs.Runs.{EndsAs, AgreesByRun}
+use Rattle.tidied_code.specs.Ends.{EndsAs, places}
+use Rattle.cash_compile.specs.Runs.{AgreesByRun}
 use Rattle.cash_compile.specs.declared.refusal.Refusal.{Refusal}
 use Rattle.cash_compile.specs.declared.refusal.Refusal.TheVariants.{CodeTooLong, TooManyOps}
 use Rattle.cash_compile.specs.Compile.{code_size, code_count, most_bytes, most_opcodes, FitsRoom}

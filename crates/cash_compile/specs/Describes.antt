@@ -9,13 +9,8 @@ use Rattle.cash_tree.specs.declared.Param.{Param}
 use Rattle.cash_tree.specs.declared.Function.{Function}
 use Rattle.cash_tree.specs.declared.Contract.{Contract}
 use Rattle.cash_base.specs.Source.{text_at}
-use Rattle.script_codec.specs.declared.spans.Spanned.{Spanned}
 use Rattle.span_map.specs.declared.SpanRow.{SpanRow}
 use Rattle.artifact_json.specs.Artifact.{Artifact, AbiParam, AbiCall, IsRowInside}
-
--- the places of an instruction
-abbrev pub places : Spanned → SpanRow
-places row = record { doing = row.doing; checking = row.checking }
 
 abbrev pub described_param : (Span → List ℕ) → Param Slot → AbiParam
 described_param name_at param = record { name = name_at param.place; ty = param.ty }

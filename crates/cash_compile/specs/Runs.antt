@@ -1,10 +1,6 @@
 -- The run of the code alone beside the run of the source, however long the redeem script is.
-use Rattle.std.specs.Prelude.{◌≡◌, ℕ, ◌+◌, ◌⊎◌, Bool, true, false, List, [], ◌∷◌, ◌++◌, length, Some, Result, Ok, Err}
-use Rattle.cash_base.specs.declared.fault.Cause.{Cause}
-use Rattle.cash_base.specs.declared.fault.Cause.TheVariants.{CheckFailed}
-use Rattle.cash_base.specs.declared.fault.MachineCause.TheVariants.{Shared, EndFalse}
+use Rattle.std.specs.Prelude.{◌≡◌, ℕ, Bool, true, false, List, [], ◌∷◌, ◌++◌, length, Result, Ok, Err}
 use Rattle.cash_base.specs.declared.place.Slot.{Slot}
-use Rattle.cash_base.specs.declared.place.Span.{Span}
 use Rattle.cash_base.specs.Number.{truth_of}
 use Rattle.cash_tree.specs.declared.Ty.{Ty}
 use Rattle.cash_tree.specs.declared.Contract.{Contract}
@@ -15,9 +11,9 @@ use Rattle.tx_context.specs.World.{World}
 use Rattle.script_codec.specs.declared.instr.Instr.{Instr}
 use Rattle.opcode_table.specs.Stack.{Stack}
 use Rattle.bch_vm.specs.Setting.{setting_in}
-use Rattle.bch_vm.specs.Script.{State, Progress, state, run, run_outcome, Failure}
+use Rattle.bch_vm.specs.Script.{Progress, state, run, run_outcome, Failure}
 use Rattle.span_map.specs.declared.SpanRow.{SpanRow}
-use Rattle.span_map.specs.Places.{place_of}
+use Rattle.tidied_code.specs.Ends.{EndsAs}
 use Rattle.unlocker.specs.Scripts.{handed_in}
 use Rattle.cash_compile.specs.Correct.{Call, IsCallOf, run_of}
 
@@ -49,28 +45,6 @@ DecidesByRun contract code =
     → AgreesAlone (run_of contract function call world) (run_outcome world code (start contract call))
 
 -- ---- with places, behind whatever stands before the code
-
--- the run ended with no condition open, and left one element, of this truth
-abbrev pub LeavesOne : Bool → State → Type 0
-LeavesOne truth end = (e : List ℕ) × (end.board.stack ≡ e ∷ []) × (truth_of e ≡ truth) × (end.board.conditions ≡ [])
-
--- it failed with the cause at a row that has the place
-abbrev pub FailsAt : List SpanRow → ℕ → Span → Cause → Result State Failure → Type 0
-FailsAt rows before span cause end =
-    (at : ℕ) × (end ≡ Err (record { at = before + at; cause = Shared cause })) × (place_of rows at (Shared cause) ≡ Some span)
-
--- A check was false, and its value is all that is left. The last executed instruction is one of the rows, and no push before
--- them; it has the place.
-abbrev pub EndsFalseAt : List SpanRow → ℕ → Span → Cause → Result State Failure → Type 0
-EndsFalseAt rows before span cause end =
-    (s : State) × (end ≡ Ok s) × LeavesOne false s × (cause ≡ CheckFailed)
-    × ((at : ℕ) × (s.progress.last ≡ before + at) × (place_of rows at EndFalse ≡ Some span))
-
--- Where the source's run is met the machine's ends with one true element. Where it fails the machine's fails with the same
--- cause at the same place, or the value of the failed check is left.
-abbrev pub EndsAs : List SpanRow → ℕ → SourceOutcome → Result State Failure → Type 0
-EndsAs rows before Met end = (s : State) × (end ≡ Ok s) × LeavesOne true s
-EndsAs rows before (Failed span cause) end = FailsAt rows before span cause end ⊎ EndsFalseAt rows before span cause end
 
 -- For every call, in every world, behind so many instructions, as the pushes of the constructor's elements, and in whichever
 -- code this one stands: its run ends as that of the source.

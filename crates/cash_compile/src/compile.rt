@@ -1,12 +1,13 @@
 //! From a source to the program of its contract.
 
-ghost use Rattle.std.specs.Prelude.{◌≡◌, ◌≢◌, ◌^◌, ◌<◌, ◌≤◌, List, length, map, IfOk, IfErr};
+ghost use Rattle.std.specs.Prelude.{◌≡◌, ◌≢◌, ◌^◌, ◌<◌, ◌≤◌, List, length, map, IfOk, IfErr, IsTrue};
 ghost use Rattle.row_runs.specs.Rows.{instructions};
+ghost use Rattle.selector.specs.Place.{is_unseparated};
 ghost use Rattle.script_codec.specs.declared.spans.Spanned.{Spanned as Row};
 ghost use Rattle.slot_lowering.specs.Functions.{CanLower};
 ghost use Rattle.typed_sources.specs.Fits.{Fits};
 ghost use Rattle.cash_compile.specs.declared.refusal.Refusal.TheVariants.{Memory as WithoutMemory};
-ghost use Rattle.cash_compile.specs.Describes.{places};
+ghost use Rattle.tidied_code.specs.Ends.{places};
 ghost use Rattle.cash_compile.specs.Compile.{IsCompiled, IsUncompiled, code_size, code_count, most_bytes, most_opcodes};
 ghost use Rattle.cash_compile.specs.Compile.{IsAccepted};
 ghost use Rattle.cash_compile.specs.Code.{IsCode};
@@ -28,6 +29,7 @@ use slot_lowering::lower;
 use span_map::SpanRow;
 use spend_laws::laws::spend_is_decided;
 use std::alloc::Global;
+use tidied_code::tidied;
 use typed_sources::accepted_contracts_fit;
 
 /// A contract and its program.
@@ -69,6 +71,24 @@ fn code_of(alloc: Global, contract: &TypedContract) -> Result<Vec<Spanned>, Memo
     requires some_function { 1 ≤ length contract.now.functions }
     requires few_functions { length contract.now.functions ≤ 64 }
     ensures { IfOk result (λ rows. IsCode contract.now rows.items) }
+{
+    let rows = untidied_code(alloc, contract)?;
+    let shorter = tidied(alloc, rows)?;
+    Ok(shorter)
+}
+
+/// The code of a contract as it is before the rewrite rules make it shorter: that of its functions, behind the choice of one.
+///
+/// # Errors
+///
+/// `Memory`, where memory ran out.
+pub fn untidied_code(alloc: Global, contract: &TypedContract) -> Result<Vec<Spanned>, Memory>
+    requires can { CanLower contract.now }
+    requires few_params { length contract.now.params ≤ 16 }
+    requires some_function { 1 ≤ length contract.now.functions }
+    requires few_functions { length contract.now.functions ≤ 64 }
+    ensures code { IfOk result (λ rows. IsCode contract.now rows.items) }
+    ensures unseparated { IfOk result (λ rows. IsTrue (is_unseparated (instructions rows.items))) }
 {
     rows_run_behind();
     number_of_written();

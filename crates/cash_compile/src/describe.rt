@@ -5,7 +5,7 @@ ghost use Rattle.std.specs.List.{AllByRecursion};
 ghost use Rattle.std.specs.Str.{IsUtf8};
 ghost use Rattle.artifact_json.specs.Artifact.{IsRowInside, is_spelled};
 ghost use Rattle.row_runs.specs.Rows.{instructions};
-ghost use Rattle.cash_compile.specs.Describes.{places};
+ghost use Rattle.tidied_code.specs.Ends.{places};
 ghost use Rattle.cash_compile.specs.Describes.{lossy_at, described_param, described_function, DescribesBy};
 
 use artifact_json::{AbiFunction, AbiInput, Program};

@@ -1,4 +1,4 @@
-use Rattle.std.proofs.Common.{◌≡◌, ◌≤◌, ℕ, List, map, pos, refl, sym, ◌∙◌, subst, length}
+use Rattle.std.proofs.Common.{◌≤◌, ℕ, List, map, pos, refl, sym, ◌∙◌, subst, length}
 use Rattle.std.specs.Prelude.{IsTrue}
 use Rattle.std.specs.List.{AllByRecursion}
 use Rattle.std.proofs.lemmas.Bool.{and_from}
@@ -6,7 +6,8 @@ use Rattle.script_codec.specs.declared.instr.Instr.{Instr}
 use Rattle.script_codec.specs.Names.{are_named}
 use Rattle.span_map.specs.declared.SpanRow.{SpanRow}
 use Rattle.artifact_json.specs.Artifact.{IsRowInside}
-use Rattle.cash_compile.specs.Describes.{places, lossy_at, described_param, described_function, DescribesBy}
+use Rattle.cash_compile.specs.Describes.{lossy_at, described_param, described_function, DescribesBy}
+use Rattle.tidied_code.specs.Ends.{places}
 use Rattle.cash_compile.specs.Compile.{code_size, code_count, most_bytes, most_opcodes}
 use Rattle.cash_compile.proofs.Placed.{rows_inside}
 use Rattle.cash_compile.proofs.Whole.{is_compiled, modest_is}
