@@ -1,18 +1,18 @@
 //! How a refusal is printed.
 
-ghost use Rattle.std.specs.Prelude.{◌≡◌, ◌≢◌, ◌≤◌, length, string_bytes, [], IfOk};
-ghost use Rattle.cash_compile.specs.Compile.{IsRefused};
+ghost use Rattle.std.specs.Prelude.{◌≡◌, ◌≢◌, ◌≤◌, ◌++◌, codes, length, string_bytes, [], IfOk};
+ghost use Rattle.cash_compile.specs.Compile.{IsUncompiled};
 ghost use Rattle.source_stages.specs.Stages.{IsText};
-ghost use Rattle.cashc.specs.RefusalText;
-ghost use Rattle.cashc.specs.RefusalText.{named_at, at_place, lex_text, parse_text, name_text, type_text, mismatch, typing_text};
+ghost use Rattle.source_texts.specs.RefusalText;
+ghost use Rattle.source_texts.specs.RefusalText.{refused_at, refused_with, lex_text, parse_text, name_text, type_text, mismatch, typing_text};
 
+use crate::places::place_text;
 use cash_base::Memory;
 use cash_compile::Refusal;
 use cash_lexer::{LexFault, tokens};
 use cash_names::NameFault;
 use cash_parser::ParseFault;
 use cash_tree::Ty;
-use span_map::line_col_of;
 use std::alloc::{AllocError, Global};
 use type_check::TypeFault;
 
@@ -38,27 +38,28 @@ fn token_start(alloc: Global, source: &[u8], number: u32) -> Result<u32, Memory>
     }
 }
 
-/// The line that names a fault at a line and a column.
-fn named_at(alloc: Global, line: u32, column: u32, name: &str) -> Result<String, AllocError>
-    ensures { IfOk result (λ text. string_bytes text ≡ named_at line column name.now) }
+/// The line that names a fault at a place.
+fn named_at(alloc: Global, place: &str, name: &str) -> Result<String, AllocError>
+    ensures { IfOk result (λ text. string_bytes text ≡ codes "refused " ++ place.now ++ codes " " ++ name.now ++ codes "\n") }
 {
-    let mut text = String::from_str(alloc, "refused ")?;
-    text.push_str(line.to_string(alloc)?.as_str())?;
-    text.push_str(":")?;
-    text.push_str(column.to_string(alloc)?.as_str())?;
-    text.push_str(" ")?;
-    text.push_str(name)?;
-    text.push_str("\n")?;
-    Ok(text)
+    Ok(format!(in alloc; "refused {place} {name}\n")?)
 }
 
 /// The line that refuses a source at a place.
-fn at_place(alloc: Global, source: &[u8], at: u32, name: &str) -> Result<String, AllocError>
+fn refused_at(alloc: Global, source: &[u8], at: u32, name: &str) -> Result<String, AllocError>
     requires { length source.now ≤ 2147483647 }
-    ensures { IfOk result (λ text. string_bytes text ≡ at_place source.now at name.now) }
+    ensures { IfOk result (λ text. string_bytes text ≡ refused_at source.now at name.now) }
 {
-    let (line, column) = line_col_of(source, at);
-    named_at(alloc, line, column, name)
+    let place = place_text(alloc, source, at)?;
+    let line = named_at(alloc, place.as_str(), name)?;
+    Ok(line)
+}
+
+/// The line that refuses a source because of a number that is too large.
+fn refused_with(alloc: Global, name: &str, n: usize) -> Result<String, AllocError>
+    ensures { IfOk result (λ text. string_bytes text ≡ refused_with name.now n) }
+{
+    Ok(format!(in alloc; "refused {name} {n}\n")?)
 }
 
 fn lex_text(alloc: Global, source: &[u8], fault: LexFault) -> Result<String, Memory>
@@ -74,7 +75,7 @@ fn lex_text(alloc: Global, source: &[u8], fault: LexFault) -> Result<String, Mem
         LexFault::BadDate { span } => (span, "BadDate"),
         LexFault::Memory => return Err(Memory),
     };
-    Ok(at_place(alloc, source, span.from, name)?)
+    Ok(refused_at(alloc, source, span.from, name)?)
 }
 
 fn parse_text(alloc: Global, source: &[u8], fault: ParseFault) -> Result<String, Memory>
@@ -86,7 +87,7 @@ fn parse_text(alloc: Global, source: &[u8], fault: ParseFault) -> Result<String,
         ParseFault::Syntax { token } => (token_start(alloc, source, token)?, "Syntax"),
         ParseFault::Memory => return Err(Memory),
     };
-    Ok(at_place(alloc, source, at, name)?)
+    Ok(refused_at(alloc, source, at, name)?)
 }
 
 fn name_text(alloc: Global, source: &[u8], fault: NameFault) -> Result<String, Memory>
@@ -102,7 +103,7 @@ fn name_text(alloc: Global, source: &[u8], fault: NameFault) -> Result<String, M
         NameFault::NoFunction { span } => (span, "NoFunction"),
         NameFault::Memory => return Err(Memory),
     };
-    Ok(at_place(alloc, source, span.from, name)?)
+    Ok(refused_at(alloc, source, span.from, name)?)
 }
 
 /// A type as it is spelled in a source; an array is its item's type and `[]`, and a pair has one word.
@@ -149,7 +150,7 @@ fn typing_text(alloc: Global, source: &[u8], fault: TypeFault) -> Result<String,
             found,
         } => {
             let name = mismatch(alloc, &wanted, &found)?;
-            return Ok(at_place(alloc, source, span.from, name.as_str())?);
+            return Ok(refused_at(alloc, source, span.from, name.as_str())?);
         }
         TypeFault::NoSuchCast { span } => (span, "NoSuchCast"),
         TypeFault::WrongCount { span, .. } => (span, "WrongCount"),
@@ -160,32 +161,36 @@ fn typing_text(alloc: Global, source: &[u8], fault: TypeFault) -> Result<String,
         TypeFault::NoFinalRequire { span } => (span, "NoFinalRequire"),
         TypeFault::Memory => return Err(Memory),
     };
-    Ok(at_place(alloc, source, span.from, name)?)
+    Ok(refused_at(alloc, source, span.from, name)?)
 }
 
 /// The line that refuses a source.
 ///
 /// It is `refused LINE:COL NAME`, where the name is that of the innermost fault, and after Mismatch come both types, as
-/// ` wanted TYPE found TYPE`; `refused NotUtf8 AT`; or `refused SourceTooLong`. A Syntax stands at its token, or at the
-/// end of the source.
+/// ` wanted TYPE found TYPE`; `refused NotUtf8 AT`; `refused SourceTooLong`; `refused CodeTooLong BYTES`; or `refused TooManyOps
+/// COUNT`. A Syntax stands at its token, or at the end of the source.
 ///
 /// # Errors
 ///
 /// `Memory`, where memory ran out.
 pub fn refusal_text(alloc: Global, source: &[u8], refusal: Refusal) -> Result<String, Memory>
     requires short { length source.now ≤ 2147483647 }
-    requires refused { IsRefused source.now refusal }
+    requires refused { IsUncompiled source.now refusal }
     ensures text { IfOk result (λ text. string_bytes text ≡ RefusalText.refusal_text source.now refusal) }
     ensures some { IfOk result (λ text. string_bytes text ≢ []) }
 {
     match refusal {
         Refusal::SourceTooLong { .. } => Ok(String::from_str(alloc, SOURCE_TOO_LONG)?),
-        Refusal::NotUtf8 { at } => Ok(format!(in alloc; "refused NotUtf8 {at}\n")?),
+        Refusal::NotUtf8 { at } => Ok(refused_with(alloc, "NotUtf8", at as usize)?),
         Refusal::Lex(fault) => lex_text(alloc, source, fault),
         Refusal::Parse(fault) => parse_text(alloc, source, fault),
         Refusal::Name(fault) => name_text(alloc, source, fault),
         Refusal::Typing(fault) => typing_text(alloc, source, fault),
-        Refusal::NotBuilt { span } => Ok(at_place(alloc, source, span.from, "NotBuilt")?),
+        Refusal::CodeTooLong { bytes, .. } => Ok(refused_with(alloc, "CodeTooLong", bytes)?),
+        Refusal::TooManyOps { count, .. } => {
+            Ok(refused_with(alloc, "TooManyOps", count as usize)?)
+        }
+        Refusal::NotBuilt { .. } => Err(Memory),
         Refusal::Memory => Err(Memory),
     }
 }

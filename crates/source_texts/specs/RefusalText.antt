@@ -15,8 +15,9 @@ use Rattle.name_scopes.specs.declared.fault.NameFault.TheVariants as names
 use Rattle.type_tables.specs.declared.fault.TypeFault.{TypeFault}
 use Rattle.type_tables.specs.declared.fault.TypeFault.TheVariants as types
 use Rattle.cash_compile.specs.declared.refusal.Refusal.{Refusal}
-use Rattle.cash_compile.specs.declared.refusal.Refusal.TheVariants.{SourceTooLong, NotUtf8, Lex, Parse, Name, Typing, NotBuilt, Memory}
+use Rattle.cash_compile.specs.declared.refusal.Refusal.TheVariants.{SourceTooLong, NotUtf8, Lex, Parse, Name, Typing, CodeTooLong, TooManyOps, NotBuilt, Memory}
 use Rattle.span_map.specs.Lines.{line_col}
+use Rattle.spend_debug.specs.Telling.{at_place}
 
 -- ---- places
 
@@ -34,13 +35,13 @@ token_start source n = start_in (length source) n (lexed source)
 
 -- ---- texts
 
--- the line that names a fault at a line and a column
-abbrev pub named_at : ℕ → ℕ → List ℕ → List ℕ
-named_at line column name = codes "refused " ++ decimal line ++ codes ":" ++ decimal column ++ codes " " ++ name ++ codes "\n"
-
 -- the line that refuses a source at a place
-abbrev pub at_place : List ℕ → ℕ → List ℕ → List ℕ
-at_place source at name = let place = line_col source at in named_at place.0 place.1 name
+abbrev pub refused_at : List ℕ → ℕ → List ℕ → List ℕ
+refused_at source at name = codes "refused " ++ at_place (line_col source at) ++ codes " " ++ name ++ codes "\n"
+
+-- ... because of a number that is too large
+abbrev pub refused_with : List ℕ → ℕ → List ℕ
+refused_with name n = codes "refused " ++ name ++ codes " " ++ decimal n ++ codes "\n"
 
 abbrev pub source_too_long : List ℕ
 source_too_long = codes "refused SourceTooLong\n"
@@ -49,26 +50,26 @@ abbrev pub out_of_memory : List ℕ
 out_of_memory = codes "out of memory\n"
 
 abbrev pub lex_text : List ℕ → LexFault → List ℕ
-lex_text source (lexer.BadCharacter span) = at_place source span.from (codes "BadCharacter")
-lex_text source (lexer.OpenString span) = at_place source span.from (codes "OpenString")
-lex_text source (lexer.OpenComment span) = at_place source span.from (codes "OpenComment")
-lex_text source (lexer.NumberTooWide span) = at_place source span.from (codes "NumberTooWide")
-lex_text source (lexer.OddHex span) = at_place source span.from (codes "OddHex")
-lex_text source (lexer.BadDate span) = at_place source span.from (codes "BadDate")
+lex_text source (lexer.BadCharacter span) = refused_at source span.from (codes "BadCharacter")
+lex_text source (lexer.OpenString span) = refused_at source span.from (codes "OpenString")
+lex_text source (lexer.OpenComment span) = refused_at source span.from (codes "OpenComment")
+lex_text source (lexer.NumberTooWide span) = refused_at source span.from (codes "NumberTooWide")
+lex_text source (lexer.OddHex span) = refused_at source span.from (codes "OddHex")
+lex_text source (lexer.BadDate span) = refused_at source span.from (codes "BadDate")
 lex_text source lexer.Memory = out_of_memory
 
 abbrev pub parse_text : List ℕ → ParseFault → List ℕ
-parse_text source (parser.TooDeep rule span) = at_place source span.from (codes "TooDeep")
-parse_text source (parser.Syntax token) = at_place source (token_start source token) (codes "Syntax")
+parse_text source (parser.TooDeep rule span) = refused_at source span.from (codes "TooDeep")
+parse_text source (parser.Syntax token) = refused_at source (token_start source token) (codes "Syntax")
 parse_text source parser.Memory = out_of_memory
 
 abbrev pub name_text : List ℕ → NameFault → List ℕ
-name_text source (names.PragmaRefused span) = at_place source span.from (codes "PragmaRefused")
-name_text source (names.UnknownName span) = at_place source span.from (codes "UnknownName")
-name_text source (names.Redeclared span) = at_place source span.from (codes "Redeclared")
-name_text source (names.AssignToConstant span) = at_place source span.from (codes "AssignToConstant")
-name_text source (names.TooManyNames span) = at_place source span.from (codes "TooManyNames")
-name_text source (names.NoFunction span) = at_place source span.from (codes "NoFunction")
+name_text source (names.PragmaRefused span) = refused_at source span.from (codes "PragmaRefused")
+name_text source (names.UnknownName span) = refused_at source span.from (codes "UnknownName")
+name_text source (names.Redeclared span) = refused_at source span.from (codes "Redeclared")
+name_text source (names.AssignToConstant span) = refused_at source span.from (codes "AssignToConstant")
+name_text source (names.TooManyNames span) = refused_at source span.from (codes "TooManyNames")
+name_text source (names.NoFunction span) = refused_at source span.from (codes "NoFunction")
 name_text source names.Memory = out_of_memory
 
 -- a type as it is spelled in a source; an array is its item's type and `[]`, and a pair has one word
@@ -92,23 +93,25 @@ abbrev pub mismatch : Ty → Ty → List ℕ
 mismatch wanted found = codes "Mismatch wanted " ++ type_text wanted ++ codes " found " ++ type_text found
 
 abbrev pub typing_text : List ℕ → TypeFault → List ℕ
-typing_text source (types.Mismatch span wanted found) = at_place source span.from (mismatch wanted found)
-typing_text source (types.NoSuchCast span) = at_place source span.from (codes "NoSuchCast")
-typing_text source (types.WrongCount span wanted found) = at_place source span.from (codes "WrongCount")
-typing_text source (types.BadTupleIndex span) = at_place source span.from (codes "BadTupleIndex")
-typing_text source (types.EmptyArray span) = at_place source span.from (codes "EmptyArray")
-typing_text source (types.MoreSigsThanKeys span) = at_place source span.from (codes "MoreSigsThanKeys")
-typing_text source (types.LiteralRange span) = at_place source span.from (codes "LiteralRange")
-typing_text source (types.NoFinalRequire span) = at_place source span.from (codes "NoFinalRequire")
+typing_text source (types.Mismatch span wanted found) = refused_at source span.from (mismatch wanted found)
+typing_text source (types.NoSuchCast span) = refused_at source span.from (codes "NoSuchCast")
+typing_text source (types.WrongCount span wanted found) = refused_at source span.from (codes "WrongCount")
+typing_text source (types.BadTupleIndex span) = refused_at source span.from (codes "BadTupleIndex")
+typing_text source (types.EmptyArray span) = refused_at source span.from (codes "EmptyArray")
+typing_text source (types.MoreSigsThanKeys span) = refused_at source span.from (codes "MoreSigsThanKeys")
+typing_text source (types.LiteralRange span) = refused_at source span.from (codes "LiteralRange")
+typing_text source (types.NoFinalRequire span) = refused_at source span.from (codes "NoFinalRequire")
 typing_text source types.Memory = out_of_memory
 
 -- the line that refuses a source
 abbrev pub refusal_text : List ℕ → Refusal → List ℕ
 refusal_text source (SourceTooLong bytes) = source_too_long
-refusal_text source (NotUtf8 at) = codes "refused NotUtf8 " ++ decimal at ++ codes "\n"
+refusal_text source (NotUtf8 at) = refused_with (codes "NotUtf8") at
 refusal_text source (Lex fault) = lex_text source fault
 refusal_text source (Parse fault) = parse_text source fault
 refusal_text source (Name fault) = name_text source fault
 refusal_text source (Typing fault) = typing_text source fault
-refusal_text source (NotBuilt span) = at_place source span.from (codes "NotBuilt")
+refusal_text source (CodeTooLong bytes code) = refused_with (codes "CodeTooLong") bytes
+refusal_text source (TooManyOps count code) = refused_with (codes "TooManyOps") count
+refusal_text source (NotBuilt span) = out_of_memory
 refusal_text source Memory = out_of_memory
