@@ -71,6 +71,14 @@ fn is_hash_script(word: &str) -> bool {
     is_hex(word) && word.len() == 46 && word.starts_with("a914") && word.ends_with("87")
 }
 
+/// Whether a line of a trace is that of an instruction of the redeem script.
+fn is_redeem_row(line: &str) -> bool {
+    match line.strip_prefix("redeem ") {
+        Some(tail) => tail.contains(' '),
+        None => false,
+    }
+}
+
 /// The redeem script that the first line shows.
 fn redeem_of(written: &str) -> &str {
     let Some(tail) = written.strip_prefix("redeem ") else {
@@ -124,6 +132,9 @@ pub fn show_written(alloc: Global, text: &mut String, name: &str, written: &[u8]
     let redeem = redeem_of(written);
     write!(text, " {name} ")?;
     for line in written.split_inclusive('\n') {
+        if is_redeem_row(line) {
+            continue;
+        }
         match line.strip_suffix('\n') {
             Some(line) => {
                 show_line(text, line, redeem)?;

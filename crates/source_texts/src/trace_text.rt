@@ -4,7 +4,7 @@ ghost use Rattle.std.specs.Prelude.{◌≡◌, ◌≢◌, ◌≤◌, ◌++◌, [
 ghost use Rattle.std.specs.Fmt.{decimal};
 ghost use Rattle.spend_trace.specs.Traced.{trace_with};
 ghost use Rattle.source_texts.specs.TraceLines;
-ghost use Rattle.source_texts.specs.TraceLines.{row_line, row_lines, trace_lines, named_opcode};
+ghost use Rattle.source_texts.specs.TraceLines.{row_line, row_lines, trace_lines};
 
 use crate::places::place_text;
 use cash_base::{Memory, Span};
@@ -81,7 +81,26 @@ fn line_of(
         ≡ script.now ++ codes " " ++ decimal at ++ codes " " ++ name.now ++ codes " " ++ place.now ++ codes " " ++ decimal height
         ++ codes "\n") }
 {
-    Ok(format!(in alloc; "{script} {at} {name} {place} {height}\n")?)
+    let mut text = front_of(alloc, script, at, name)?;
+    text.push_str(end_of(alloc, place, height)?.as_str())?;
+    Ok(text)
+}
+
+fn front_of(alloc: Global, script: &str, at: u32, name: &str) -> Result<String, AllocError>
+    ensures { IfOk result (λ text. string_bytes text ≡ script.now ++ codes " " ++ decimal at ++ codes " " ++ name.now) }
+{
+    let mut text = String::from_str(alloc, script)?;
+    text.push_str(" ")?;
+    text.push_str(at.to_string(alloc)?.as_str())?;
+    text.push_str(" ")?;
+    text.push_str(name)?;
+    Ok(text)
+}
+
+fn end_of(alloc: Global, place: &str, height: u32) -> Result<String, AllocError>
+    ensures { IfOk result (λ text. string_bytes text ≡ codes " " ++ place.now ++ codes " " ++ decimal height ++ codes "\n") }
+{
+    Ok(format!(in alloc; " {place} {height}\n")?)
 }
 
 fn opcode_told(alloc: Global, opcode: u8) -> Result<String, AllocError>
@@ -90,14 +109,7 @@ fn opcode_told(alloc: Global, opcode: u8) -> Result<String, AllocError>
     if 0 < opcode && opcode <= 0x4e {
         return Ok(String::from_str(alloc, "PUSH")?);
     }
-    let name = named(alloc, opcode_name(opcode))?;
-    Ok(name)
-}
-
-fn named(alloc: Global, name: Option<&str>) -> Result<String, AllocError>
-    ensures { IfOk result (λ text. string_bytes text ≡ named_opcode name.now) }
-{
-    match name {
+    match opcode_name(opcode) {
         Some(name) => Ok(format!(in alloc; "OP_{name}")?),
         None => Ok(String::from_str(alloc, "-")?),
     }
