@@ -1,5 +1,5 @@
 pub mod Calls
 pub mod Causes
 pub mod Decided
-pub mod Runnable
+pub mod Ready
 pub mod Stored

@@ -40,8 +40,10 @@ pub fn debug_files<S: Store>(
     ensures files { S.files store.new ≡ S.files store.old }
 {
     let compiled = compiled_in(alloc, source, NO_TIME, store)?;
-    let output = debugged_in(alloc, &compiled, spend, store)?;
-    Ok(output)
+    match debugged_in(alloc, &compiled, spend, store) {
+        Ok(output) => Ok(output),
+        Err(stop) => Err(stop),
+    }
 }
 
 /// What the spend of a program comes to that the file of this name asks for.
@@ -68,7 +70,6 @@ fn debugged_in<S: Store>(
     Ok(output)
 }
 
-#[tactic(auto, using(crate::proofs::Decided::debug_decided))]
 fn debugged(alloc: Global, compiled: &Compiled, bytes: &[u8]) -> Result<Output, Stop>
     requires compiled { IsCompiled compiled.now.program.source compiled.now.contract compiled.now.program }
     requires few { HasFewInputs compiled.now.program }

@@ -49,8 +49,10 @@ pub fn meaning_files<S: Store>(
     ensures files { S.files store.new ≡ S.files store.old }
 {
     let compiled = compiled_in(alloc, source, NO_TIME, store)?;
-    let output = meant_in(alloc, &compiled, spend, store)?;
-    Ok(output)
+    match meant_in(alloc, &compiled, spend, store) {
+        Ok(output) => Ok(output),
+        Err(stop) => Err(stop),
+    }
 }
 
 /// The meaning of the call of a program that the file of this name asks for.

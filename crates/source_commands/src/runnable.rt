@@ -9,7 +9,7 @@ use cash_parser::trees_hold;
 use type_soundness::contracts_have_room;
 
 /// The room has places for each function of a compiled contract, and its program has as many parameters.
-#[tactic(auto, using(crate::proofs::Runnable::has_room, crate::proofs::Runnable::parameters_told))]
+#[tactic(auto, using(crate::proofs::Ready::has_room))]
 pub(crate) fn can_be_run(compiled: &Compiled)
     requires { IsCompiled compiled.now.program.source compiled.now.contract compiled.now.program }
     ensures room { HasRoom compiled.now.contract }

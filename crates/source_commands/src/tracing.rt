@@ -48,8 +48,10 @@ pub fn trace_files<S: Store>(
     ensures files { S.files store.new ≡ S.files store.old }
 {
     let compiled = compiled_in(alloc, source, NO_TIME, store)?;
-    let output = traced_in(alloc, &compiled, spend, store)?;
-    Ok(output)
+    match traced_in(alloc, &compiled, spend, store) {
+        Ok(output) => Ok(output),
+        Err(stop) => Err(stop),
+    }
 }
 
 /// The trace of the spend of a program that the file of this name asks for.
@@ -76,7 +78,6 @@ fn traced_in<S: Store>(
     Ok(output)
 }
 
-#[tactic(auto, using(crate::proofs::Decided::trace_shown))]
 fn traced(alloc: Global, compiled: &Compiled, bytes: &[u8]) -> Result<Output, Stop>
     requires compiled { IsCompiled compiled.now.program.source compiled.now.contract compiled.now.program }
     requires few { HasFewInputs compiled.now.program }
