@@ -35,6 +35,9 @@ use Rattle.slot_expressions.specs.Ready.{Known-names, any_name, is_ready, ready_
 use Rattle.slot_expressions.specs.Room.{price, ◌⊕◌, sum, push_of, as_chunk, form_price, priced, price_of, price_at, chunks_of, chunks_at}
 use Rattle.slot_expressions.specs.Rows.{lit}
 use Rattle.slot_expressions.specs.Spans.{SpannedBy, own_spans, own_spans_at}
+use Rattle.slot_expressions.specs.Reads.{Gets, names_in, item_names}
+use Rattle.slot_expressions.proofs.NameSteps as naming
+use Rattle.slot_expressions.proofs.ReadRows as read
 use Rattle.slot_expressions.specs.Pieces.{Gives, Code, Stands, LowersElement, LowersAll, LowersItems, LowersChunk, LowersChunks, LowersArray, LowersForm, LeftAll, LeftChunks, instruction, in_scope}
 use Rattle.slot_expressions.proofs.ReadySteps as ready
 use Rattle.slot_expressions.proofs.RoomSteps as room
@@ -62,6 +65,7 @@ all_none code checking = record {
   stands = λ slots is. record { fits = omega arith; stands = λ p in_slots seen room. refl };
   light = light_none;
   spans = spanned_none;
+  gets = read.gets_none;
 }
 
 more_put : (r : Result (List ℕ) Failure) (more : Result (List (List ℕ)) Failure)
@@ -83,6 +87,7 @@ all_more {old} {mid} {new} {checking} {e} {parts} h t = record {
       (t.stands slots (and_right (is_ready (in_scope slots) e) (all_of (map (is_ready (in_scope slots)) parts)) is)));
   light = light_both h.light t.light;
   spans = spanned_sum h.spans t.spans;
+  gets = read.gets_both h.gets t.gets;
 }
 
 next_item : (parts : List TypedExpr) (x : TypedExpr) (i : ℕ) → i < length parts → x ≡ get_or parts i x → drop i parts ≡ x ∷ drop (i + 1) parts
@@ -128,6 +133,7 @@ lowers_items {old} {new} {checking} {e} {items} is h =
       light = light_as (under (room.whole_priced e ∙ ap price_at is ∙ room.array_priced items)) h.light;
       chunks = ap length (room.whole_chunks e ∙ ap chunks_at is ∙ room.array_chunks items) ∙ length-map items (λ (part : TypedExpr). as_chunk (priced part));
       spans = spanned_in (covers_rest (covers_as (spanned.whole_spanned e ∙ ap (λ l. e.span ∷ l) (ap own_spans_at is ∙ spanned.array_spanned items)))) h.spans;
+      gets = read.gets_as (naming.array_named e items is) h.gets;
     }
 
 -- ---- scripts of data
@@ -141,6 +147,7 @@ chunks_none code checking span = record {
       (code_most (omega arith) (code_ready (λ known r. and_left (own known) true r) (code_as (λ world env. same (v world env)) h)));
   light = light_none;
   spans = spanned_none;
+  gets = read.gets_none;
 }
   where
     same : (r : Result (List ℕ) Failure) → r ≡ (r >>= λ x. Ok x)
@@ -173,6 +180,7 @@ chunks_more {old} {mid} {new} {checking} {span} {e} {parts} h t = record {
       let covers : Covers (span ∷ (own_spans e ++ joined (map own_spans parts))) (span ∷ (own_spans e ++ joined (map own_spans parts))) = covers_as refl in
       spanned_both (spanned_in (covers_cons (covers_first covers) (covers_left (own_spans e) (joined (map own_spans parts)) (covers_rest covers))) h.spans)
       (spanned_in (covers_cons (covers_first covers) (covers_right (own_spans e) (joined (map own_spans parts)) (covers_rest covers))) t.spans);
+  gets = read.gets_both h.gets t.gets;
 }
 
 pub left_chunks_none : (code : List SlotInstr) (checking span : Span) (parts : List TypedExpr) → ReadyAll parts → LeftChunks code code checking span parts 0
@@ -209,6 +217,7 @@ lowers_array {old} {new} {checking} {span} {e} {items} is h =
           let covers : Covers (span ∷ own_spans e) (span ∷ own_spans e) = covers_as refl in
           let listed = covers_rest (covers_as (spanned.whole_spanned e ∙ ap (λ l. e.span ∷ l) (ap own_spans_at is ∙ spanned.array_spanned items))) in
           spanned_in (covers_cons (covers_first covers) (covers_then (covers_rest covers) listed)) h.spans;
+      gets = read.gets_as (naming.array_named e items is) h.gets;
     }
   where
     and_as : (a b c : Bool) → b ≡ c → (a && b) ≡ true → (a && c) ≡ true
@@ -232,6 +241,7 @@ no_items {code} {checking} {e} other =
       light = light_none;
       chunks = ap length (room.whole_chunks e ∙ room.no_array_chunks e.kind other);
       spans = spanned_none;
+      gets = read.gets_as (naming.no_array_named e other) read.gets_none;
     }
 
 pub no_chunks : {code : List SlotInstr} {checking span : Span} {e : TypedExpr} → ((items : List TypedExpr) → e.kind ≡ exprs.Array items → ⊥) → LowersArray code code checking span e
@@ -246,6 +256,7 @@ no_chunks {code} {checking} {span} {e} other =
           (code_as (λ world env. ap (λ vs. v world env >>= λ so_far. with_chunks span so_far vs) (sym (listed world env))) (t.code begun v own most c)));
       light = light_none;
       spans = spanned_none;
+      gets = read.gets_as (naming.no_array_named e other) read.gets_none;
     }
 
 data_is : (r : Result (List ℕ) Failure) → (r >>= λ whole. Ok (GivenOne whole)) ≡ (r >>= λ e. Ok (GivenOne e))
@@ -260,7 +271,8 @@ form_data {old} {begun} {new} {checking} {span} {a} first h =
           (λ world env. refl) (λ known r. r) (omega arith)
           (light_as data_price (light_both (light_row (lit data_front) span checking (push_of data_front) (lit_weighs data_front)) h.light))
           (let covers : Covers (span ∷ (own_spans a ++ [])) (span ∷ own_spans a) = covers_as (ap (λ l. span ∷ l) (append-nil (own_spans a))) in
-          spanned_both (spanned_row (lit data_front) span checking (steps.lit_spans (record { items = data_front })) (covers_first covers)) (spanned_in covers h.spans));
+          spanned_both (spanned_row (lit data_front) span checking (steps.lit_spans (record { items = data_front })) (covers_first covers)) (spanned_in covers h.spans))
+          (read.gets_as (append-nil (item_names a)) (read.gets_both (read.gets_row (lit data_front) span checking (read.lit_gets (record { items = data_front }))) h.gets));
     }
   where
     data_price : Under (push_of data_front ⊕ sum (chunks_of a)) (form_price forms.HoldsData (priced a ∷ []))
@@ -435,7 +447,11 @@ form_sigs {old} {m0} {m1} {m2} {m3} {m4} {new} {checking} {span} {a} {b} {n} {m}
           let puts_of : (bytes : List ℕ) → SpannedBy (instruction (lit bytes) span checking ∷ []) checking (span ∷ (own_spans a ++ (own_spans b ++ []))) =
           λ bytes. spanned_row (lit bytes) span checking (steps.lit_spans (record { items = bytes })) (covers_first covers) in
           spanned_both (spanned_both (spanned_both (spanned_both (spanned_both (puts_of []) (spanned_in (covers_left (own_spans a) (own_spans b) (covers_rest covers)) ha.spans)) (puts_of nb))
-          (spanned_in (covers_right (own_spans a) (own_spans b) (covers_rest covers)) hb.spans)) (puts_of mb)) (spanned_row (kinds.CheckMulti n m) span checking (steps.check_multi_spans n m) (covers_first covers)));
+          (spanned_in (covers_right (own_spans a) (own_spans b) (covers_rest covers)) hb.spans)) (puts_of mb)) (spanned_row (kinds.CheckMulti n m) span checking (steps.check_multi_spans n m) (covers_first covers)))
+          (let read_none : (bytes : List ℕ) → Gets (instruction (lit bytes) span checking ∷ []) checking [] = λ bytes. read.gets_row (lit bytes) span checking (read.lit_gets (record { items = bytes })) in
+          read.gets_as (ap (λ l. item_names a ++ l) (append-nil (item_names b)))
+          (read.gets_then (kinds.CheckMulti n m) span (read.check_multi_gets n m)
+          (read.gets_more (read.gets_both (read.gets_more (read.gets_both (read_none []) ha.gets) (read_none nb)) hb.gets) (read_none mb))));
     }
 
 pub lowers_form_data : {old begun new : List SlotInstr} {checking span : Span} {a : TypedExpr} {args : List TypedExpr} → args ≡ (a ∷ []) → begun ≡ old ++ instruction (lit data_front) span checking ∷ []

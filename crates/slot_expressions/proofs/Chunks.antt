@@ -29,6 +29,9 @@ use Rattle.slot_expressions.specs.Ready.{Known-names, any_name, is_element, is_r
 use Rattle.slot_expressions.specs.Room.{price, ◌⊕◌, one, push_of, other_chunk, chunk_price, cast_spelled, as_chunk, priced, price_of, spelled, spelled_at}
 use Rattle.slot_expressions.specs.Rows.{lit}
 use Rattle.slot_expressions.specs.Spans.{own_spans}
+use Rattle.slot_expressions.specs.Reads.{names_at}
+use Rattle.slot_expressions.proofs.NameSteps as naming
+use Rattle.slot_expressions.proofs.ReadRows as read
 use Rattle.slot_expressions.specs.Pieces.{Gives, Code, LowersElement, LowersChunk, IsSpelled, IsChunk, OtherChunk, keeps, leaves, instruction}
 use Rattle.slot_expressions.proofs.ReadySteps as ready
 use Rattle.slot_expressions.proofs.RoomSteps as room
@@ -57,6 +60,7 @@ hex_is_spelled {e} {bytes} is h =
       is = room.whole_spelled e ∙ ap spelled_at is ∙ room.hex_spelled bytes;
       gives = λ world env. element_is world env e (exprs.Hex bytes) is ∙ ap element (source.hex_gives world env bytes e.span) ∙ ap (λ o. element (applied e.span o)) (sized_fits bytes fits);
       some = omega (arith, source.whole_counted e, ap kind_count is, source.hex_counted bytes);
+      unread = naming.whole_named e ∙ ap names_at is ∙ naming.hex_named bytes;
     }
 
 pub spelled_hex : {e : TypedExpr} {bytes out : List ℕ} → e.kind ≡ exprs.Hex bytes → out ≡ bytes → Ready e → IsSpelled e out
@@ -68,6 +72,7 @@ text_is_spelled {e} {bytes} is h =
       is = room.whole_spelled e ∙ ap spelled_at is ∙ room.text_spelled bytes;
       gives = λ world env. element_is world env e (exprs.Text bytes) is ∙ ap element (source.text_gives world env bytes e.span) ∙ ap (λ o. element (applied e.span o)) (sized_fits bytes fits);
       some = omega (arith, source.whole_counted e, ap kind_count is, source.text_counted bytes);
+      unread = naming.whole_named e ∙ ap names_at is ∙ naming.text_named bytes;
     }
 
 pub spelled_text : {e : TypedExpr} {bytes out : List ℕ} → e.kind ≡ exprs.Text bytes → out ≡ bytes → Ready e → IsSpelled e out
@@ -101,6 +106,7 @@ kept_cast {e} {a} {to} None {bytes} is kept h =
           ∙ ap (λ o. element (element (value_of world env a) >>= λ x. applied e.span (cast_result o x))) keep
           ∙ left_so (element (value_of world env a)) e.span bytes (h.gives world env);
       some = omega (arith, source.whole_counted e, ap kind_count is, source.cast_counted to a);
+      unread = naming.whole_named e ∙ ap names_at is ∙ naming.cast_named to a ∙ h.unread;
     }
 
 pub spelled_cast : {e : TypedExpr} (a : TypedExpr) {x : TypedExpr} {to : Ty} (size : Option TypedExpr) {bytes : List ℕ} → e.kind ≡ exprs.Cast to a size → x ≡ a
@@ -156,6 +162,7 @@ lowers_chunk {old} {mid} {new} {checking} {span} {e} other h grown =
       spans =
           let covers : Covers (span ∷ own_spans e) (span ∷ own_spans e) = covers_as refl in
           spanned_both (spanned_in (covers_rest covers) h.spans) (spanned_row kinds.Chunk span checking steps.chunk_spans (covers_first covers));
+      gets = read.gets_then kinds.Chunk span read.chunk_gets h.gets;
     }
 
 chunk_same : (r s : Result (List ℕ) Failure) (span : Span) (bytes : List ℕ) → s ≡ Ok bytes
@@ -183,4 +190,5 @@ lowers_spelled {old} {mid} {new} {checking} {span} {e} {bytes} h first second =
       spans =
           let covers : Covers (span ∷ own_spans e) (span ∷ own_spans e) = covers_as refl in
           spanned_both (spanned_row (lit pushed) span checking (steps.lit_spans (record { items = pushed })) (covers_first covers)) (spanned_row (kinds.Do2 Cat) span checking (steps.do2_spans Cat) (covers_first covers));
+      gets = read.gets_as h.whole.unread (read.gets_then (kinds.Do2 Cat) span (read.do2_gets Cat) (read.gets_row (lit pushed) span checking (read.lit_gets (record { items = pushed }))));
     }

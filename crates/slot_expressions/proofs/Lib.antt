@@ -5,6 +5,8 @@ pub mod RoomSteps
 pub mod SpanSteps
 pub mod Lights
 pub mod Spanning
+pub mod NameSteps
+pub mod ReadRows
 pub mod Single
 pub mod Acts
 pub mod ReadySteps

@@ -27,13 +27,14 @@ use Rattle.slot_code.specs.Weight.{path_weigh}
 use Rattle.slot_expressions.proofs.Tests.{and_intro, and_left, and_right}
 use Rattle.slot_lowering.specs.Scoped.{has_values, ReadyBody, ends_rightly}
 use Rattle.slot_lowering.specs.Statements.{Holds, IsPath, LowersBodyAt, met, leave_all, is_scoped}
-use Rattle.slot_lowering.specs.Functions.{in_slots, function_fits, CanLower, CanLowerFunction, HasCounts, RunsAs, IsWeighed, KeepsSpans, IsLowered, AreLowered, LeftFunctions}
+use Rattle.slot_lowering.specs.Functions.{in_slots, function_fits, CanLower, CanLowerFunction, HasCounts, RunsAs, IsWeighed, KeepsSpans, Arranges, IsLowered, AreLowered, LeftFunctions}
 use Rattle.slot_lowering.specs.Room.{path_pays, pays_of, function_price}
 use Rattle.slot_lowering.specs.Weighed.{weights, AtEnd}
 use Rattle.slot_lowering.specs.Spans.{SpansAmong, own_spans}
 use Rattle.slot_code.specs.Spans.{code_spans}
 use Rattle.cash_tree.specs.Nodes.{joined}
 use Rattle.cash_tree.specs.Spans.{nothing as no_name, param_spans, statement_spans}
+use Rattle.slot_lowering.specs.Arranged.{ArrangedBody}
 
 -- ---- the slots at the start
 
@@ -187,6 +188,7 @@ is_lowered {contract} {f} {none_yet} {g} can none_is h ctors_is params_is span_i
             ∙ ap (λ env. ended (env_after_all world f.body env)) (sym (handed_alike contract f ctor args can.params (and_left (in_slots ctors f.params) (nat_le n 160) first) ctor_count arg_count));
       };
       spans = spanned span_is (subst (λ l. SpansAmong l (joined (map own_spans f.body))) (sym rows_are) path.spans);
+      arranged = record { is = subst (ArrangedBody true f.body) (sym rows_are) (path.arranged (and_right (is_scoped f.body slots) (ends_rightly f.body) third)) };
       weight = weighed count (subst (λ l. AtEnd l (path_pays (map pays_of f.body))) (sym rows_are) (path.weight (and_right (is_scoped f.body slots) (ends_rightly f.body) third)));
     }
 
@@ -250,6 +252,9 @@ weights_of_all {contract} {gs} h = each contract.functions gs (λ f g is. is.wei
 
 pub spans_of_all : {contract : Contract Slot Ty} {gs : List SlotFunction} → AreLowered contract contract.functions gs → AllZip KeepsSpans contract.functions gs
 spans_of_all {contract} {gs} h = each contract.functions gs (λ f g is. is.spans) h.all
+
+pub arranged_all : {contract : Contract Slot Ty} {gs : List SlotFunction} → AreLowered contract contract.functions gs → AllZip Arranges contract.functions gs
+arranged_all {contract} {gs} h = each contract.functions gs (λ f g is. is.arranged) h.all
 
 shapes : (contract : Contract Slot Ty) (fs : List (Function Slot Ty)) (gs : List SlotFunction) → AllZip (IsLowered contract) fs gs → AllByRecursion IsWellFormed gs
 shapes contract [] [] h = tt

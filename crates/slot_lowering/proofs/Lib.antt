@@ -3,6 +3,7 @@ pub mod PricingSteps
 pub mod Weights
 pub mod SpanSteps
 pub mod Spanning
+pub mod Arranging
 pub mod Values
 pub mod Simple
 pub mod Blocks

@@ -41,6 +41,7 @@ never_last {old} {new} {kind} {span} never h = record {
   does = λ slots ok ends. let both : false ≡ true = sym never ∙ ends in absurd cc;
   weight = λ ends. let both : false ≡ true = sym never ∙ ends in absurd cc;
   spans = h.spans;
+  arranged = λ ends. let both : false ≡ true = sym never ∙ ends in absurd cc;
 }
 
 pub placed_define : {b : Bool} {old mid new : List SlotInstr} {span : Span} {kind : StmtKind Slot Ty} {t : Ty} {constant : Bool} {slot : Slot} {at : Span} {e : TypedExpr} → kind ≡ stmts.Define t constant slot at e
@@ -120,6 +121,7 @@ path_none now final same = record {
   does = λ slots ok ends. let never : false ≡ true = ends in absurd cc;
   weight = λ ends. let never : false ≡ true = ends in absurd cc;
   spans = among_none;
+  arranged = λ ends. let never : false ≡ true = ends in absurd cc;
 }
 
 goes_on : (now final : List SlotInstr) (body : List TypedStmt) → GoesOn now final body → LowersPath now final body

@@ -19,6 +19,7 @@ use Rattle.slot_code.specs.Spans.{slot_spans}
 use Rattle.slot_lowering.specs.Scoped.{has_values, ends_rightly}
 use Rattle.slot_lowering.specs.Room.{function_price}
 use Rattle.slot_lowering.specs.Statements.{is_scoped}
+use Rattle.slot_lowering.specs.Arranged.{ArrangedBody}
 
 -- ---- the condition
 
@@ -68,12 +69,17 @@ pub record IsWeighed (contract : Contract Slot Ty) (f : Function Slot Ty) (g : S
 pub record KeepsSpans (f : Function Slot Ty) (g : SlotFunction) : Type 0 where
   pub all : (test : Span → Bool) → list_all test (function_spans no_name f) ≡ true → list_all test (slot_spans g) ≡ true
 
+-- Statement by statement, its rows stand as the function's statements do.
+pub record Arranges (f : Function Slot Ty) (g : SlotFunction) : Type 0 where
+  pub is : ArrangedBody true f.body g.body
+
 pub record IsLowered (contract : Contract Slot Ty) (f : Function Slot Ty) (g : SlotFunction) : Type 0 where
   pub counts : HasCounts contract f g
   pub shape : IsWellFormed g
   pub run : RunsAs contract f g
   pub weight : IsWeighed contract f g
   pub spans : KeepsSpans f g
+  pub arranged : Arranges f g
 
 -- the functions in order
 pub record AreLowered (contract : Contract Slot Ty) (functions : List (Function Slot Ty)) (lowered : List SlotFunction) : Type 0 where

@@ -1,0 +1,5 @@
+mod PartSteps
+mod Rows
+mod Growing
+mod Reading
+mod Pointed

@@ -1,0 +1,17 @@
+//! Laws of what lowering gives.
+
+ghost use Rattle.cash_base.specs.declared.place.Slot.{Slot};
+ghost use Rattle.cash_tree.specs.declared.Ty.{Ty};
+ghost use Rattle.cash_tree.specs.declared.Contract.{Contract};
+ghost use Rattle.cash_tree.specs.declared.Function.{Function};
+ghost use Rattle.slot_code.specs.declared.slots.SlotFunction.{SlotFunction};
+ghost use Rattle.slot_lowering.specs.Functions.{Arranges, CanLowerFunction, HasCounts};
+ghost use Rattle.lowered_names.specs.Points.{HasPoints};
+
+/// Where a statement of a lowered function begins, a statement of its source with the same span does, and the same names are live
+/// and kept there.
+#[tactic(auto, using(crate::proofs::Pointed::begin_alike))]
+pub fn statements_begin_alike()
+    ensures { (contract : Contract Slot Ty) (f : Function Slot Ty) (g : SlotFunction) → CanLowerFunction contract f
+        → HasCounts contract f g → Arranges f g → HasPoints contract f g }
+{}

@@ -1,0 +1,6 @@
+//! Which names are live and kept before each statement of a function, over its source and over its slot code: they are the same.
+#![tactic(auto)]
+
+pub mod laws;
+
+pub use laws::statements_begin_alike;
