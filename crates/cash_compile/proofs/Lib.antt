@@ -3,6 +3,10 @@ pub mod Alike
 pub mod Chosen
 pub mod Left
 pub mod Slots
+pub mod Placed
+pub mod Priced
 pub mod Whole
+pub mod Small
+pub mod Runnable
 pub mod Described
 pub mod Ways

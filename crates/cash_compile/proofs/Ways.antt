@@ -8,7 +8,7 @@ use Rattle.source_stages.specs.declared.fault.SourceFault.{SourceFault}
 use Rattle.source_stages.specs.declared.fault.SourceFault.TheVariants as faults
 use Rattle.source_stages.specs.Stages as stages
 use Rattle.cash_compile.specs.declared.refusal.Refusal.{Refusal}
-use Rattle.cash_compile.specs.declared.refusal.Refusal.TheVariants.{SourceTooLong, NotUtf8, Lex, Parse, Name, Typing, CodeTooLong, TooManyOps, NotBuilt, Memory}
+use Rattle.cash_compile.specs.declared.refusal.Refusal.TheVariants.{SourceTooLong, NotUtf8, Lex, Parse, Name, Typing, CodeTooLong, TooManyOps, Memory}
 use Rattle.cash_compile.specs.Compile.{IsAccepted, IsRefused, AreSame}
 
 -- what is known of the stages of a source
@@ -40,7 +40,6 @@ told source (Name fault) h = (faults.Name fault, h, refl)
 told source (Typing fault) h = (faults.Typing fault, h, refl)
 told source (CodeTooLong bytes code) h = absurd h
 told source (TooManyOps count code) h = absurd h
-told source (NotBuilt span) h = absurd h
 told source Memory h = absurd h
 
 pub never_both_are : Laws → (source : List ℕ) (contract : Contract Slot Ty) (refusal : Refusal) → IsAccepted source contract → IsRefused source refusal → ⊥

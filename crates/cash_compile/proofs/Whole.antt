@@ -1,16 +1,17 @@
 -- The code of a contract, from the code of its functions; and the program of such code.
-use Rattle.std.proofs.Common.{◌≡◌, ℕ, ◌+◌, ◌≤◌, ◌<◌, true, false, not, IsTrue, List, [], ◌∷◌, length, map, zero, suc, Option, Some, refl, sym, ap, ◌∙◌, subst, arith}
+use Rattle.std.proofs.Common.{◌≡◌, ℕ, ◌+◌, ◌≤◌, ◌<◌, Bool, true, false, not, IsTrue, List, [], ◌∷◌, length, map, zero, suc, Option, Some, refl, sym, ap, ◌∙◌, subst, arith}
 use Rattle.std.specs.Prelude.{slice_get, IfSome}
-use Rattle.std.specs.List.{AllZip, AllByRecursion}
-use Rattle.std.proofs.lemmas.Bool.{and_parts, and_from, leb-true}
+use Rattle.std.specs.List.{AllZip, AllByRecursion, list_all}
+use Rattle.std.proofs.lemmas.Bool.{and_parts, and_from}
 use Rattle.std.proofs.lemmas.List.{length-map}
 use Rattle.std.proofs.lemmas.Option.{same_Some, none-some}
 use Rattle.cash_base.specs.declared.place.Slot.{Slot}
 use Rattle.cash_base.specs.declared.place.Span.{Span}
-use Rattle.cash_base.specs.Source.{IsInside, text_at}
+use Rattle.cash_base.specs.Source.{text_at}
 use Rattle.cash_tree.specs.declared.Ty.{Ty}
 use Rattle.cash_tree.specs.declared.Contract.{Contract}
 use Rattle.cash_tree.specs.declared.Function.{Function}
+use Rattle.cash_tree.specs.Spans.{nothing as no_name, tree_spans}
 use Rattle.script_codec.specs.declared.instr.Instr.{Instr}
 use Rattle.script_codec.specs.declared.spans.Spanned.{Spanned}
 use Rattle.script_codec.specs.declared.spans.Marked.{Marked}
@@ -27,24 +28,26 @@ use Rattle.selector.specs.Place.{row_separates, separates, is_unseparated}
 use Rattle.selector.specs.Selection.{IsAlone, Selects, AreNested, AreUnseparated}
 use Rattle.slot_code.specs.declared.slots.SlotFunction.{SlotFunction}
 use Rattle.slot_code.specs.Shape.{first_slots}
-use Rattle.slot_lowering.specs.Functions.{HasCounts, RunsAs}
+use Rattle.slot_lowering.specs.Functions.{HasCounts, RunsAs, IsWeighed, KeepsSpans}
 use Rattle.stack_emitter.specs.Codes.{is_sound, are_sound}
 use Rattle.stack_schedule.specs.Schedule.{HasForm}
+use Rattle.stack_schedule.specs.Spans.{have_places}
 use Rattle.span_map.specs.declared.SpanRow.{SpanRow}
-use Rattle.artifact_json.specs.Artifact.{Artifact, HasFewInputs, HasRows, is_spelled, AbiCall}
-use Rattle.artifact_json.specs.Reading.{is_inside}
+use Rattle.artifact_json.specs.Artifact.{Artifact, HasFewInputs, HasRows, IsRowInside, is_spelled, AbiCall}
 use Rattle.typed_sources.specs.Fits.{Fits}
-use Rattle.cash_compile.specs.Describes.{places, IsRowInside, is_row_inside, are_rows_inside, described_param, described_function, lossy_at, DescribesBy, Describes}
+use Rattle.cash_compile.specs.Describes.{places, described_param, described_function, lossy_at, DescribesBy, Describes}
 use Rattle.cash_compile.specs.Correct.{SpendsAgree}
 use Rattle.cash_compile.specs.Runs.{DecidesByRun}
 use Rattle.cash_compile.specs.Compile.{IsAccepted}
-use Rattle.cash_compile.specs.Compile.{code_size, code_count, most_bytes, most_opcodes, IsWithin, IsCompiled, IsTooLong, HasTooMany, IsUncompiled}
+use Rattle.cash_compile.specs.Compile.{code_size, code_count, most_bytes, most_opcodes, IsWithin, FitsRoom, IsCompiled, IsTooLong, HasTooMany, IsUncompiled}
 use Rattle.cash_compile.specs.declared.refusal.Refusal.{Refusal}
 use Rattle.cash_compile.specs.declared.refusal.Refusal.TheVariants.{CodeTooLong, TooManyOps}
 use Rattle.cash_compile.specs.Code.{FunctionAgrees, IsScheduled, AreScheduled, IsCode, IsOver}
 use Rattle.cash_compile.proofs.Spends as spends
 use Rattle.cash_compile.proofs.Spends.{IsGood}
 use Rattle.cash_compile.proofs.Described.{few_inputs}
+use Rattle.cash_compile.proofs.Placed.{HoldsOf, IsPlaced, its_own, of_functions, pieces_placed}
+use Rattle.cash_compile.proofs.Priced.{IsLight, ChoicesCountFew, one_fits, several_fit}
 use Rattle.cash_compile.proofs.Alike as alike
 use Rattle.cash_compile.proofs.Chosen as choices
 use Rattle.cash_compile.proofs.Chosen.{AreAgreeing, one_agrees, chosen_agrees}
@@ -63,27 +66,46 @@ pub record IsCodeOf (contract : Contract Slot Ty) (f : Function Slot Ty) (code :
   pub spelled : IsTrue (are_instructions (instructions code.code.items))
   pub keys : IsTrue (are_keys_known false (instructions code.code.items))
   pub form : HasForm code.code.items
+  pub named : IsTrue (are_named (instructions code.code.items))
+  pub placed : (holds : Span → Bool) → HoldsOf holds f → IsPlaced holds code
+  pub light : IsLight contract f code
 
 is_code_of : alike.Law → (contract : Contract Slot Ty) (f : Function Slot Ty) (g : SlotFunction) (code : Marked) → HasCounts contract f g → RunsAs contract f g
-    → IsScheduled g code → IsCodeOf contract f code
-is_code_of law contract f g code counts runs_as h = record {
+    → IsWeighed contract f g → KeepsSpans f g → IsScheduled g code → IsCodeOf contract f code
+is_code_of law contract f g code counts runs_as weighed keeps h = record {
   agrees = alike.function_agrees law contract f g (first_slots (g.ctors + g.params)) code.code.items refl counts runs_as h.decides h.own h.form;
   spelled = sound_spelled code.code.items h.form.sound;
   keys = h.keys;
   form = h.form;
+  named = h.named;
+  placed = λ holds is. h.spans holds (keeps.all holds is);
+  light = (let bytes = h.within.bytes in
+      let ops = h.within.ops in
+      let most_bytes = weighed.bytes in
+      let most_ops = weighed.ops in
+      record { bytes = omega (arith, bytes, most_bytes); opcodes = omega (arith, ops, most_ops) });
 }
 
 -- ---- the functions of a contract
 
-all_codes : alike.Law → (contract : Contract Slot Ty) (fs : List (Function Slot Ty)) (gs : List SlotFunction) (codes : List Marked) → AllZip (HasCounts contract) fs gs
-    → AllZip (RunsAs contract) fs gs → AllZip IsScheduled gs codes → AllZip (IsCodeOf contract) fs codes
-all_codes law contract [] [] [] a b e = tt
-all_codes law contract [] [] (m ∷ codes) a b e = absurd e
-all_codes law contract [] (g ∷ gs) codes a b e = absurd a
-all_codes law contract (f ∷ fs) [] codes a b e = absurd a
-all_codes law contract (f ∷ fs) (g ∷ gs) [] a b e = absurd e
-all_codes law contract (f ∷ fs) (g ∷ gs) (m ∷ codes) a b e =
-    (is_code_of law contract f g m a.0 b.0 e.0, all_codes law contract fs gs codes a.1 b.1 e.1)
+-- what lowering says of a contract's functions
+pub record AreLowered (contract : Contract Slot Ty) (fs : List (Function Slot Ty)) (gs : List SlotFunction) : Type 0 where
+  pub counts : AllZip (HasCounts contract) fs gs
+  pub runs : AllZip (RunsAs contract) fs gs
+  pub weights : AllZip (IsWeighed contract) fs gs
+  pub spans : AllZip KeepsSpans fs gs
+
+all_codes : alike.Law → (contract : Contract Slot Ty) (fs : List (Function Slot Ty)) (gs : List SlotFunction) (codes : List Marked) → AreLowered contract fs gs
+    → AllZip IsScheduled gs codes → AllZip (IsCodeOf contract) fs codes
+all_codes law contract [] [] [] h e = tt
+all_codes law contract [] [] (m ∷ codes) h e = absurd e
+all_codes law contract [] (g ∷ gs) codes h e = absurd h.counts
+all_codes law contract (f ∷ fs) [] codes h e = absurd h.counts
+all_codes law contract (f ∷ fs) (g ∷ gs) [] h e = absurd e
+all_codes law contract (f ∷ fs) (g ∷ gs) (m ∷ codes) h e = (
+  is_code_of law contract f g m h.counts.0 h.runs.0 h.weights.0 h.spans.0 e.0,
+  all_codes law contract fs gs codes (record { counts = h.counts.1; runs = h.runs.1; weights = h.weights.1; spans = h.spans.1 }) e.1,
+)
 
 -- ---- a contract with one function
 
@@ -94,6 +116,9 @@ one_code contract f function code only h alone =
       agrees = one_agrees contract (function ∷ []) function function all refl (record { rows = refl; marks = refl });
       spelled = h.spelled;
       keys = h.keys;
+      named = h.named;
+      spans = λ holds is. h.placed holds (subst (AllByRecursion (HoldsOf holds)) only (of_functions holds contract is)).0;
+      fits = one_fits contract f function only h.light;
     } in
     subst (λ (rows : List Spanned). IsCode contract rows) (sym alone.rows) whole
 
@@ -114,22 +139,43 @@ of_all [] (m ∷ ms) to h = absurd h
 of_all (x ∷ xs) [] to h = absurd h
 of_all (x ∷ xs) (m ∷ ms) to h = (to x m h.0, of_all xs ms to h.1)
 
-several_code : choices.Written → (contract : Contract Slot Ty) (functions : List Marked) (ctors : ℕ) (code : Marked) → AreCodes contract functions
+of_both : {A : Type 0} {R : A → Marked → Type 0} {Q : A → Type 0} {P : Marked → Type 0} (xs : List A) (ms : List Marked) → ((x : A) (m : Marked) → R x m → Q x → P m)
+    → AllZip R xs ms → AllByRecursion Q xs → AllByRecursion P ms
+of_both [] [] to h k = tt
+of_both [] (m ∷ ms) to h k = absurd h
+of_both (x ∷ xs) [] to h k = absurd h
+of_both (x ∷ xs) (m ∷ ms) to h k = (to x m h.0 k.0, of_both xs ms to h.1 k.1)
+
+several_placed : (contract : Contract Slot Ty) (functions : List Marked) (ctors : ℕ) (code : Marked) → AreCodes contract functions → Selects functions ctors contract.span code
+    → (holds : Span → Bool) → list_all holds (tree_spans no_name contract) ≡ true → have_places holds code.code.items ≡ true
+several_placed contract functions ctors code all h holds is =
+    let placed : AllByRecursion (IsPlaced holds) functions =
+    of_both contract.functions functions (λ f m k own. k.placed holds own) all (of_functions holds contract is) in
+    subst (λ (rows : List Spanned). have_places holds rows ≡ true) (sym h.rows)
+    (pieces_placed holds contract.span h.pieces (its_own holds contract is) h.own (subst (AllByRecursion (IsPlaced holds)) (sym h.in_order) placed))
+
+several_code : choices.Written → ChoicesCountFew → (contract : Contract Slot Ty) (functions : List Marked) (ctors : ℕ) (code : Marked) → AreCodes contract functions
     → ctors ≡ length contract.params → 2 ≤ length functions → length functions ≤ 64 → Selects functions ctors contract.span code → IsCode contract code.code.items
-several_code written contract functions ctors code all ctors_is several few h =
+several_code written counted contract functions ctors code all ctors_is several few h =
     let agreeing : AreAgreeing contract functions = each contract.functions functions (λ f m is. is.agrees) all in
+    let light : AllZip (IsLight contract) contract.functions functions = each contract.functions functions (λ f m is. is.light) all in
+    let spelled = of_all contract.functions functions (λ f m is. is.spelled) all in
+    let keys = of_all contract.functions functions (λ f m is. is.keys) all in
     record {
       agrees = chosen_agrees written contract functions ctors code agreeing ctors_is several few h;
-      spelled = h.spelled (of_all contract.functions functions (λ f m is. is.spelled) all);
-      keys = h.keys (of_all contract.functions functions (λ f m is. is.keys) all);
+      spelled = h.spelled spelled;
+      keys = h.keys keys;
+      named = h.named (of_all contract.functions functions (λ f m is. is.named) all);
+      spans = several_placed contract functions ctors code all h;
+      fits = several_fit counted contract functions ctors code light (choices.same_length (IsCodeOf contract) contract.functions functions all) several spelled keys h;
     }
 
 -- ---- any number of functions
 
-pub planned : alike.Law → (contract : Contract Slot Ty) (gs now : List SlotFunction) (codes : List Marked) → now ≡ gs → AllZip (HasCounts contract) contract.functions gs
-    → AllZip (RunsAs contract) contract.functions gs → AreScheduled now codes → AreCodes contract codes
-planned law contract gs now codes is counted runs h =
-    all_codes law contract contract.functions gs codes counted runs (subst (λ l. AllZip IsScheduled l codes) is h.all)
+pub planned : alike.Law → (contract : Contract Slot Ty) (gs now : List SlotFunction) (codes : List Marked) → now ≡ gs → AreLowered contract contract.functions gs
+    → AreScheduled now codes → AreCodes contract codes
+planned law contract gs now codes is lowered h =
+    all_codes law contract contract.functions gs codes lowered (subst (λ l. AllZip IsScheduled l codes) is h.all)
 
 pub as_many : (contract : Contract Slot Ty) (codes : List Marked) → AreCodes contract codes → length contract.functions ≡ length codes
 as_many contract codes all = choices.same_length (IsCodeOf contract) contract.functions codes all
@@ -164,30 +210,16 @@ only R [] m h = absurd h
 only R (x ∷ []) m h = record { x = x; is = refl; holds = h.0 }
 only R (x ∷ y ∷ xs) m h = absurd h.1
 
-pub whole_code : choices.Written → (contract : Contract Slot Ty) (codes : List Marked) (ctors : ℕ) (code : Marked) → AreCodes contract codes
+pub whole_code : choices.Written → ChoicesCountFew → (contract : Contract Slot Ty) (codes : List Marked) (ctors : ℕ) (code : Marked) → AreCodes contract codes
     → ctors ≡ length contract.params → 1 ≤ length codes → length codes ≤ 64
     → ((function : Marked) → codes ≡ function ∷ [] → IsAlone function code) → (2 ≤ length codes → Selects codes ctors contract.span code) → IsCode contract code.code.items
-whole_code written contract [] ctors code all is some few one several = absurd (omega (arith, some))
-whole_code written contract (m ∷ []) ctors code all is some few one several =
+whole_code written counted contract [] ctors code all is some few one several = absurd (omega (arith, some))
+whole_code written counted contract (m ∷ []) ctors code all is some few one several =
     let h = only (IsCodeOf contract) contract.functions m all in
     one_code contract h.x m code h.is h.holds (one m refl)
-whole_code written contract (m ∷ n ∷ codes) ctors code all is some few one several =
+whole_code written counted contract (m ∷ n ∷ codes) ctors code all is some few one several =
     let two : 2 ≤ length (m ∷ n ∷ codes) = omega arith in
-    several_code written contract (m ∷ n ∷ codes) ctors code all is two few (several two)
-
--- ---- places
-
-inside : (len : ℕ) (span : Span) → is_inside len span ≡ true → IsInside len span
-inside len span is =
-    let parts = and_parts _ _ is in
-    record { ordered = leb-true span.from span.to parts.0; ends = leb-true span.to len parts.1 }
-
-pub all_inside : (len : ℕ) (rows : List SpanRow) → are_rows_inside len rows ≡ true → AllByRecursion (IsRowInside len) rows
-all_inside len [] is = tt
-all_inside len (row ∷ rows) is =
-    let parts = and_parts (is_row_inside len row) (are_rows_inside len rows) is in
-    let both = and_parts (is_inside len row.doing) (is_inside len row.checking) parts.0 in
-    ((inside len row.doing both.0, inside len row.checking both.1), all_inside len rows parts.1)
+    several_code written counted contract (m ∷ n ∷ codes) ctors code all is two few (several two)
 
 -- ---- programs
 
@@ -242,6 +274,7 @@ is_compiled law written uncounted source contract rows program accepted h modest
       };
       decides = subst (λ (c : List Instr). DecidesByRun contract c) (sym code_is) whole;
       within = subst (λ (c : List Instr). IsWithin c) (sym code_is) (record { bytes = short; opcodes = few });
+      fits = subst (FitsRoom contract) (sym code_is) h.fits;
       storable = record {
         few_params = omega (arith, params, few_params);
         some_function = omega (arith, functions, some);
@@ -261,6 +294,7 @@ is_too_long contract rows bytes h is over = record {
   decides = spends.decides_by_run contract (instructions rows) (map places rows) h.agrees;
   number = is;
   over = over;
+  most = (let most = h.fits.bytes in omega (arith, is, most));
 }
 
 pub has_too_many : (contract : Contract Slot Ty) (rows : List Spanned) (count : ℕ) → IsCode contract rows → code_size (instructions rows) ≤ most_bytes
@@ -271,6 +305,7 @@ has_too_many contract rows count h short is over = record {
   bytes = short;
   number = is;
   over = over;
+  most = (let most = h.fits.opcodes in omega (arith, is, most));
 }
 
 pub uncompiled : (source : List ℕ) (contract : Contract Slot Ty) (rows : List Spanned) (code : List Instr) (refusal : Refusal) → IsAccepted source contract → IsCode contract rows

@@ -1,28 +1,32 @@
 -- What is known of the code of a function, and of the code of a contract.
-use Rattle.std.specs.Prelude.{◌≡◌, ℕ, ◌+◌, ◌≤◌, ◌<◌, false, IsTrue, List, ◌++◌, length, map, drop}
-use Rattle.std.specs.List.{AllZip}
+use Rattle.std.specs.Prelude.{◌≡◌, ℕ, ◌+◌, ◌≤◌, ◌<◌, Bool, false, IsTrue, List, ◌++◌, length, map, drop}
+use Rattle.std.specs.List.{AllZip, list_all}
 use Rattle.cash_base.specs.declared.place.Slot.{Slot}
+use Rattle.cash_base.specs.declared.place.Span.{Span}
 use Rattle.cash_tree.specs.declared.Ty.{Ty}
 use Rattle.cash_tree.specs.declared.Contract.{Contract}
 use Rattle.cash_tree.specs.declared.Function.{Function}
+use Rattle.cash_tree.specs.Spans.{nothing as no_name, tree_spans}
 use Rattle.source_meaning.specs.Meaning.{source_outcome}
 use Rattle.tx_context.specs.World.{World}
 use Rattle.script_codec.specs.declared.instr.Instr.{Instr}
 use Rattle.script_codec.specs.declared.spans.Spanned.{Spanned}
 use Rattle.script_codec.specs.declared.spans.Marked.{Marked}
 use Rattle.script_codec.specs.Spelling.{are_instructions}
+use Rattle.script_codec.specs.Names.{are_named}
 use Rattle.bch_vm.specs.Law.{are_keys_known}
 use Rattle.bch_vm.specs.Setting.{setting_in}
 use Rattle.bch_vm.specs.Script.{state, run, Progress}
 use Rattle.slot_code.specs.declared.slots.SlotFunction.{SlotFunction}
 use Rattle.slot_code.specs.Shape.{first_slots}
 use Rattle.stack_schedule.specs.Schedule as scheduled
+use Rattle.stack_schedule.specs.Spans.{have_places, KeepsSpans}
 use Rattle.row_runs.specs.Rows.{instructions}
 use Rattle.cash_compile.specs.Describes.{places}
 use Rattle.cash_compile.specs.Runs.{EndsAs, AgreesByRun}
 use Rattle.cash_compile.specs.declared.refusal.Refusal.{Refusal}
 use Rattle.cash_compile.specs.declared.refusal.Refusal.TheVariants.{CodeTooLong, TooManyOps}
-use Rattle.cash_compile.specs.Compile.{code_size, code_count, most_bytes, most_opcodes}
+use Rattle.cash_compile.specs.Compile.{code_size, code_count, most_bytes, most_opcodes, FitsRoom}
 
 -- ---- a function
 
@@ -41,6 +45,9 @@ pub record IsScheduled (g : SlotFunction) (code : Marked) : Type 0 where
   pub own : scheduled.EndsOnItsOwn (first_slots (g.ctors + g.params)) code.code.items
   pub form : scheduled.HasForm code.code.items
   pub keys : scheduled.CountsKeys code.code.items
+  pub named : scheduled.AreNamed code.code.items
+  pub spans : KeepsSpans g code.code.items
+  pub within : scheduled.IsWithin g code.code.items
 
 pub record AreScheduled (lowered : List SlotFunction) (codes : List Marked) : Type 0 where
   pub all : AllZip IsScheduled lowered codes
@@ -55,6 +62,11 @@ pub record IsCode (contract : Contract Slot Ty) (rows : List Spanned) : Type 0 w
   pub agrees : AgreesByRun contract (instructions rows) (map places rows)
   pub spelled : IsTrue (are_instructions (instructions rows))
   pub keys : IsTrue (are_keys_known false (instructions rows))
+  -- each opcode has a name
+  pub named : IsTrue (are_named (instructions rows))
+  -- what holds of every span of the contract holds of both places of each row
+  pub spans : (holds : Span → Bool) → IsTrue (list_all holds (tree_spans no_name contract)) → IsTrue (have_places holds rows)
+  pub fits : FitsRoom contract (instructions rows)
 
 -- code is over one of the limits, and the refusal carries it
 abbrev pub IsOver : List Instr → Refusal → Type 0

@@ -8,12 +8,13 @@ use Rattle.cash_parser.specs.declared.fault.ParseFault.TheVariants as parser
 use Rattle.source_stages.specs.Stages as stages
 use Rattle.source_stages.specs.declared.fault.SourceFault.TheVariants as faults
 use Rattle.cash_compile.specs.declared.refusal.Refusal.{Refusal}
-use Rattle.cash_compile.specs.declared.refusal.Refusal.TheVariants.{SourceTooLong, NotUtf8, Lex, Parse, Name, Typing, CodeTooLong, TooManyOps, NotBuilt, Memory}
+use Rattle.cash_compile.specs.declared.refusal.Refusal.TheVariants.{SourceTooLong, NotUtf8, Lex, Parse, Name, Typing, CodeTooLong, TooManyOps, Memory}
 use Rattle.script_codec.specs.declared.instr.Instr.{Instr}
 use Rattle.script_codec.specs.Spelling.{are_instructions, spellings}
 use Rattle.script_codec.specs.Reading.{reading}
 use Rattle.script_codec.specs.Counting.{counted_in}
 use Rattle.artifact_json.specs.Artifact.{Artifact, IsStorable}
+use Rattle.slot_lowering.specs.Room.{room, ops_room}
 use Rattle.cash_compile.specs.Correct.{IsCorrect}
 use Rattle.cash_compile.specs.Runs.{DecidesByRun}
 
@@ -34,7 +35,6 @@ IsRefused source (Name fault) = stages.IsRefused source (faults.Name fault)
 IsRefused source (Typing fault) = stages.IsRefused source (faults.Typing fault)
 IsRefused source (CodeTooLong bytes code) = ⊥
 IsRefused source (TooManyOps count code) = ⊥
-IsRefused source (NotBuilt span) = ⊥
 IsRefused source Memory = ⊥
 
 -- the same refusal, but for the token that a Syntax names
@@ -63,38 +63,44 @@ pub record IsWithin (code : List Instr) : Type 0 where
   pub bytes : code_size code ≤ most_bytes
   pub opcodes : code_count code ≤ most_opcodes
 
+-- no more bytes and opcodes than the contract's statements sum up to
+pub record FitsRoom (contract : Contract Slot Ty) (code : List Instr) : Type 0 where
+  pub bytes : code_size code ≤ room contract
+  pub opcodes : code_count code ≤ ops_room contract
+
 -- The source stands for the contract, the program is correct for it, the runs of its code alone decide as those of the source, its
--- code is within the limits, and a file can hold it.
+-- code is within the limits and fits the contract's room, and a file can hold it.
 pub record IsCompiled (source : List ℕ) (contract : Contract Slot Ty) (program : Artifact) : Type 0 where
   pub accepted : IsAccepted source contract
   pub correct : IsCorrect source contract program
   pub decides : DecidesByRun contract program.code
   pub within : IsWithin program.code
+  pub fits : FitsRoom contract program.code
   pub storable : IsStorable program
 
 -- ---- the refusals of an accepted source
 
--- code that decides the contract by its runs has so many bytes, more than can be pushed
+-- code that decides the contract by its runs has so many bytes, more than can be pushed, and no more than the contract's room
 pub record IsTooLong (contract : Contract Slot Ty) (code : List Instr) (bytes : ℕ) : Type 0 where
   pub spelled : IsTrue (are_instructions code)
   pub decides : DecidesByRun contract code
   pub number : bytes ≡ code_size code
   pub over : most_bytes < bytes
+  pub most : bytes ≤ room contract
 
--- ... has few enough bytes, and counts so many opcodes, more than a script may count
+-- ... has few enough bytes, and counts so many opcodes, more than a script may count, and no more than the contract's room
 pub record HasTooMany (contract : Contract Slot Ty) (code : List Instr) (count : ℕ) : Type 0 where
   pub spelled : IsTrue (are_instructions code)
   pub decides : DecidesByRun contract code
   pub bytes : code_size code ≤ most_bytes
   pub number : count ≡ code_count code
   pub over : most_opcodes < count
+  pub most : count ≤ ops_room contract
 
--- An accepted source, whose code is too long or counts too many opcodes; or an accepted source, of which nothing more is said than
--- the place of its contract; or a source that is refused.
+-- an accepted source, whose code is too long or counts too many opcodes; or a source that is refused
 abbrev pub IsUncompiled : List ℕ → Refusal → Type 0
 IsUncompiled source (CodeTooLong bytes code) =
     (contract : Contract Slot Ty) × IsAccepted source contract × IsTooLong contract code.items bytes
 IsUncompiled source (TooManyOps count code) =
     (contract : Contract Slot Ty) × IsAccepted source contract × HasTooMany contract code.items count
-IsUncompiled source (NotBuilt span) = (contract : Contract Slot Ty) × IsAccepted source contract × (span ≡ contract.span)
 IsUncompiled source refusal = IsRefused source refusal

@@ -1,6 +1,6 @@
 -- How a program tells of the contract that it was compiled from.
-use Rattle.std.specs.Prelude.{◌≡◌, ℕ, Bool, ◌&&◌, List, length, map, Some}
-use Rattle.std.specs.List.{AllByRecursion, list_all}
+use Rattle.std.specs.Prelude.{◌≡◌, ℕ, List, length, map, Some}
+use Rattle.std.specs.List.{AllByRecursion}
 use Rattle.std.specs.Str.Lossy.{utf8_lossy}
 use Rattle.cash_base.specs.declared.place.Slot.{Slot}
 use Rattle.cash_base.specs.declared.place.Span.{Span}
@@ -8,11 +8,10 @@ use Rattle.cash_tree.specs.declared.Ty.{Ty}
 use Rattle.cash_tree.specs.declared.Param.{Param}
 use Rattle.cash_tree.specs.declared.Function.{Function}
 use Rattle.cash_tree.specs.declared.Contract.{Contract}
-use Rattle.cash_base.specs.Source.{text_at, IsInside}
+use Rattle.cash_base.specs.Source.{text_at}
 use Rattle.script_codec.specs.declared.spans.Spanned.{Spanned}
 use Rattle.span_map.specs.declared.SpanRow.{SpanRow}
-use Rattle.artifact_json.specs.Artifact.{Artifact, AbiParam, AbiCall}
-use Rattle.artifact_json.specs.Reading.{is_inside}
+use Rattle.artifact_json.specs.Artifact.{Artifact, AbiParam, AbiCall, IsRowInside}
 
 -- the places of an instruction
 abbrev pub places : Spanned → SpanRow
@@ -24,17 +23,6 @@ described_param name_at param = record { name = name_at param.place; ty = param.
 abbrev pub described_function : (Span → List ℕ) → Function Slot Ty → AbiCall
 described_function name_at function =
     record { name = name_at function.name; inputs = map (described_param name_at) function.params }
-
--- both places lie in a source of so many bytes
-abbrev pub IsRowInside : ℕ → SpanRow → Type 0
-IsRowInside len row = IsInside len row.doing × IsInside len row.checking
-
--- the test of it
-abbrev pub is_row_inside : ℕ → SpanRow → Bool
-is_row_inside len row = is_inside len row.doing && is_inside len row.checking
-
-abbrev pub are_rows_inside : ℕ → List SpanRow → Bool
-are_rows_inside len rows = list_all (is_row_inside len) rows
 
 -- Its source is that of the contract, its names are told so at the contract's places, its types are the contract's, and it
 -- has a row of places, inside the source, for each instruction.

@@ -1,13 +1,12 @@
 //! From a source to the program of its contract.
 
-ghost use Rattle.std.specs.Prelude.{◌≡◌, ◌≢◌, ◌&&◌, ◌^◌, ◌<◌, ◌≤◌, true, List, length, map, IfOk, IfErr};
+ghost use Rattle.std.specs.Prelude.{◌≡◌, ◌≢◌, ◌^◌, ◌<◌, ◌≤◌, List, length, map, IfOk, IfErr};
 ghost use Rattle.row_runs.specs.Rows.{instructions};
 ghost use Rattle.script_codec.specs.declared.spans.Spanned.{Spanned as Row};
-ghost use Rattle.script_codec.specs.Names.{are_named};
 ghost use Rattle.slot_lowering.specs.Functions.{CanLower};
 ghost use Rattle.typed_sources.specs.Fits.{Fits};
 ghost use Rattle.cash_compile.specs.declared.refusal.Refusal.TheVariants.{Memory as WithoutMemory};
-ghost use Rattle.cash_compile.specs.Describes.{places, are_rows_inside};
+ghost use Rattle.cash_compile.specs.Describes.{places};
 ghost use Rattle.cash_compile.specs.Compile.{IsCompiled, IsUncompiled, code_size, code_count, most_bytes, most_opcodes};
 ghost use Rattle.cash_compile.specs.Compile.{IsAccepted};
 ghost use Rattle.cash_compile.specs.Code.{IsCode};
@@ -17,12 +16,11 @@ use crate::functions::codes_of;
 use crate::reading::typed_contract_of;
 use crate::refusal::Refusal;
 use crate::size::within_limits;
-use crate::told::can_be_told;
 use artifact_json::Program;
 use cash_base::Memory;
 use cash_base::number::{number_of_written, written_is_element};
 use cash_tree::TypedContract;
-use counting_laws::laws::pushes_count_nothing;
+use counting_laws::laws::{choices_count_few, pushes_count_nothing};
 use rows_behind::rows_run_behind;
 use script_codec::{Instr, Marked, Spanned};
 use selector::select;
@@ -44,13 +42,13 @@ pub struct Compiled {
 ///
 /// Each spend that is built of the program ends as the run of the source: accepted where the run is met, and otherwise
 /// refused in the redeem script, with the cause and at the place of the run's failure. Its code has at most 520 bytes and counts
-/// at most 201 opcodes, and a file can hold it.
+/// at most 201 opcodes, and at most those of the contract's room, a sum over its statements; and a file can hold it.
 ///
 /// # Errors
 ///
 /// The refusal of the first stage that gives nothing, each exactly where its cause stands in the source, in the order of
-/// [`Refusal`]; `CodeTooLong` and `TooManyOps` with code that decides the contract by its runs, over the limit; `NotBuilt`, of
-/// which nothing more is said than that the source is accepted and where its contract stands; or `Memory`, where memory ran out.
+/// [`Refusal`]; `CodeTooLong` and `TooManyOps` with code that decides the contract by its runs, over the limit and within the
+/// contract's room; or `Memory`, where memory ran out.
 pub fn compile(alloc: Global, source: &[u8], updated: &str) -> Result<Compiled, Refusal>
     requires { length source.now < 2 ^ 32 }
     ensures compiled { IfOk result (λ compiled. IsCompiled source.now compiled.contract compiled.program) }
@@ -74,6 +72,7 @@ fn code_of(alloc: Global, contract: &TypedContract) -> Result<Vec<Spanned>, Memo
 {
     rows_run_behind();
     number_of_written();
+    choices_count_few();
     let lowered = lower(alloc, contract)?;
     let codes = codes_of(alloc, lowered.as_slice())?;
     let ctors = ctor_count(contract);
@@ -97,7 +96,7 @@ fn rows_of(code: Marked) -> Vec<Spanned>
     code
 }
 
-/// The program of code that is within the limits and can be told; or why it isn't.
+/// The program of code that is within the limits; or why it isn't.
 fn sized_program(
     alloc: Global,
     source: &[u8],
@@ -115,11 +114,6 @@ fn sized_program(
     let CodeAndPlaces { code, spans } = split(alloc, rows)?;
     match within_limits(alloc, code) {
         Ok(code) => {
-            if !can_be_told(source.len(), code.as_slice(), spans.as_slice()) {
-                return Err(Refusal::NotBuilt {
-                    span: contract.span,
-                });
-            }
             let program = compiled_program(alloc, source, updated, contract, code, spans)?;
             Ok(program)
         }
@@ -140,7 +134,6 @@ fn compiled_program(
     requires code { (rows : List Row) × IsCode contract.now rows × (code.items ≡ instructions rows) × (spans.items ≡ map places rows) }
     requires short { code_size code.items ≤ most_bytes }
     requires few { code_count code.items ≤ most_opcodes }
-    requires told { (are_named code.items && are_rows_inside (length source.now) spans.items) ≡ true }
     ensures compiled { IfOk result (λ program. IsCompiled source.now contract.now program) }
     ensures updated { IfOk result (λ program. program.updated ≡ updated.now) }
 {

@@ -3,10 +3,10 @@
 ghost use Rattle.std.specs.Prelude.{◌≡◌, length, map, string_bytes, IfOk, IsTrue};
 ghost use Rattle.std.specs.List.{AllByRecursion};
 ghost use Rattle.std.specs.Str.{IsUtf8};
-ghost use Rattle.artifact_json.specs.Artifact.{is_spelled};
+ghost use Rattle.artifact_json.specs.Artifact.{IsRowInside, is_spelled};
 ghost use Rattle.row_runs.specs.Rows.{instructions};
 ghost use Rattle.cash_compile.specs.Describes.{places};
-ghost use Rattle.cash_compile.specs.Describes.{IsRowInside, lossy_at, described_param, described_function, DescribesBy};
+ghost use Rattle.cash_compile.specs.Describes.{lossy_at, described_param, described_function, DescribesBy};
 
 use artifact_json::{AbiFunction, AbiInput, Program};
 use cash_base::{Memory, Slot, Span, text_at};

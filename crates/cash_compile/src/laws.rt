@@ -1,14 +1,20 @@
 //! What holds of each source, and what follows for correct code.
 
-ghost use Rattle.std.specs.Prelude.{◌≡◌, ◌⊎◌, ℕ, List};
+ghost use Rattle.std.specs.Prelude.{◌≡◌, ◌⊎◌, ◌≤◌, ℕ, List, length, slice_get, Some};
 ghost use Rattle.cash_base.specs.declared.place.Slot.{Slot};
 ghost use Rattle.cash_tree.specs.declared.Ty.{Ty};
 ghost use Rattle.cash_tree.specs.declared.Contract.{Contract as CashContract};
+ghost use Rattle.cash_tree.specs.declared.Function.{Function as CashFunction};
+ghost use Rattle.source_meaning.specs.Runnable.{CanRun};
+ghost use Rattle.slot_lowering.specs.Room.{room, ops_room};
 ghost use Rattle.artifact_json.specs.Artifact.{Artifact};
 ghost use Rattle.cash_compile.specs.declared.refusal.Refusal.{Refusal as Cause};
-ghost use Rattle.cash_compile.specs.Compile.{IsAccepted, IsRefused, AreSame};
+ghost use Rattle.cash_compile.specs.Compile.{IsAccepted, IsRefused, IsUncompiled, AreSame, most_bytes, most_opcodes};
 ghost use Rattle.cash_compile.specs.Correct.{Decides, MeetsNoLimit};
 ghost use Rattle.cash_compile.specs.Correct.{IsCorrect};
+
+use cash_parser::trees_hold;
+use type_soundness::contracts_have_room;
 
 /// Of the spends of correct code the machine accepts exactly those whose runs are met.
 pub fn correct_decides()
@@ -40,4 +46,23 @@ pub fn one_way()
     ensures one_refusal { (source : List ℕ) (a b : Cause) → IsRefused source a → IsRefused source b → AreSame a b }
 {
     source_stages::one_way();
+}
+
+/// A source is never refused whose contract's room is at most 520 bytes and 201 counted opcodes.
+pub fn small_contracts_fit()
+    ensures { (source : List ℕ) (contract : CashContract Slot Ty) (refusal : Cause) → IsAccepted source contract
+        → room contract ≤ most_bytes → ops_room contract ≤ most_opcodes → IsUncompiled source refusal → ⊥ }
+{
+    one_contract();
+    one_way();
+}
+
+/// The room of a run has places for each function of the contract of each accepted source.
+pub fn accepted_contracts_run()
+    ensures { (source : List ℕ) (contract : CashContract Slot Ty) → IsAccepted source contract
+        → (place : ℕ) (function : CashFunction Slot Ty) → slice_get contract.functions place ≡ Some function
+        → CanRun contract (length contract.params) place (length function.params) }
+{
+    contracts_have_room();
+    trees_hold();
 }

@@ -9,7 +9,6 @@ pub mod laws;
 pub mod reading;
 pub mod refusal;
 mod size;
-mod told;
 
 pub use refusal::Refusal;
 pub use source_stages::MAX_SOURCE_LEN;

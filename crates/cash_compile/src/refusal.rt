@@ -3,7 +3,7 @@
 ghost use Rattle.std.specs.Prelude.{◌≡◌};
 ghost use Rattle.cash_compile.specs.declared.refusal.Refusal.TheVariants.{Memory};
 
-use cash_base::{Memory, Span};
+use cash_base::Memory;
 use cash_lexer::LexFault;
 use cash_names::NameFault;
 use cash_parser::ParseFault;
@@ -26,13 +26,12 @@ pub enum Refusal {
     Name(NameFault),
     /// A node of its named tree has no type. The fault is never want of memory.
     Typing(TypeFault),
-    /// Its code, which is carried, has this number of bytes, more than the 520 of a redeem script.
+    /// Its code, which is carried, has this number of bytes, more than the 520 of a redeem script, and at most those of the
+    /// contract's room.
     CodeTooLong { bytes: usize, code: Vec<Instr> },
-    /// Its code, which is carried, has few enough bytes, and counts this number of opcodes, more than the 201 of a script.
+    /// Its code, which is carried, has few enough bytes, and counts this number of opcodes, more than the 201 of a script, and
+    /// at most those of the contract's room.
     TooManyOps { count: u32, code: Vec<Instr> },
-    /// Its code is within the limits, but no program tells it: an opcode has no name, or a place lies outside the source. The
-    /// span is that of the contract.
-    NotBuilt { span: Span },
     /// Memory ran out.
     Memory,
 }

@@ -9,7 +9,8 @@ use Rattle.cash_compile.proofs.compile.code_of.Goals as goal
 pub select-requires-clause-some : goal.select-requires-clause-some
 select-requires-clause-some c =
     let all = planned c.rows_run_behind.ensures c.args.contract.now c.in_ok-lowered.lowered.items c.as_slice.result.now c.in_ok-codes.codes.items c.as_slice.ensures.value
-    c.in_ok-lowered.ensures.functions c.in_ok-lowered.ensures.run c.in_ok-codes.ensures in
+    (record { counts = c.in_ok-lowered.ensures.functions; runs = c.in_ok-lowered.ensures.run; weights = c.in_ok-lowered.ensures.weights; spans = c.in_ok-lowered.ensures.spans })
+    c.in_ok-codes.ensures in
     let count = as_many c.args.contract.now c.in_ok-codes.codes.items all in
     let same = ap length c.as_slice-2.ensures.value in
     let some = c.requires.some_function in
@@ -18,7 +19,8 @@ select-requires-clause-some c =
 pub select-requires-clause-few : goal.select-requires-clause-few
 select-requires-clause-few c =
     let all = planned c.rows_run_behind.ensures c.args.contract.now c.in_ok-lowered.lowered.items c.as_slice.result.now c.in_ok-codes.codes.items c.as_slice.ensures.value
-    c.in_ok-lowered.ensures.functions c.in_ok-lowered.ensures.run c.in_ok-codes.ensures in
+    (record { counts = c.in_ok-lowered.ensures.functions; runs = c.in_ok-lowered.ensures.run; weights = c.in_ok-lowered.ensures.weights; spans = c.in_ok-lowered.ensures.spans })
+    c.in_ok-codes.ensures in
     let count = as_many c.args.contract.now c.in_ok-codes.codes.items all in
     let same = ap length c.as_slice-2.ensures.value in
     let few = c.requires.few_functions in
@@ -27,20 +29,23 @@ select-requires-clause-few c =
 pub select-requires-clause-nested : goal.select-requires-clause-nested
 select-requires-clause-nested c =
     let all = planned c.rows_run_behind.ensures c.args.contract.now c.in_ok-lowered.lowered.items c.as_slice.result.now c.in_ok-codes.codes.items c.as_slice.ensures.value
-    c.in_ok-lowered.ensures.functions c.in_ok-lowered.ensures.run c.in_ok-codes.ensures in
+    (record { counts = c.in_ok-lowered.ensures.functions; runs = c.in_ok-lowered.ensures.run; weights = c.in_ok-lowered.ensures.weights; spans = c.in_ok-lowered.ensures.spans })
+    c.in_ok-codes.ensures in
     subst AreNested (sym c.as_slice-2.ensures.value) (all_nested c.args.contract.now c.in_ok-codes.codes.items all)
 
 pub select-requires-clause-unseparated : goal.select-requires-clause-unseparated
 select-requires-clause-unseparated c =
     let all = planned c.rows_run_behind.ensures c.args.contract.now c.in_ok-lowered.lowered.items c.as_slice.result.now c.in_ok-codes.codes.items c.as_slice.ensures.value
-    c.in_ok-lowered.ensures.functions c.in_ok-lowered.ensures.run c.in_ok-codes.ensures in
+    (record { counts = c.in_ok-lowered.ensures.functions; runs = c.in_ok-lowered.ensures.run; weights = c.in_ok-lowered.ensures.weights; spans = c.in_ok-lowered.ensures.spans })
+    c.in_ok-codes.ensures in
     subst AreUnseparated (sym c.as_slice-2.ensures.value) (all_plain c.args.contract.now c.in_ok-codes.codes.items all)
 
 pub returns : goal.returns
 returns c =
     let codes = c.in_ok-codes.codes.items in
     let all = planned c.rows_run_behind.ensures c.args.contract.now c.in_ok-lowered.lowered.items c.as_slice.result.now codes c.as_slice.ensures.value
-    c.in_ok-lowered.ensures.functions c.in_ok-lowered.ensures.run c.in_ok-codes.ensures in
+    (record { counts = c.in_ok-lowered.ensures.functions; runs = c.in_ok-lowered.ensures.run; weights = c.in_ok-lowered.ensures.weights; spans = c.in_ok-lowered.ensures.spans })
+    c.in_ok-codes.ensures in
     let count = as_many c.args.contract.now codes all in
     let some = c.requires.some_function in
     let few = c.requires.few_functions in
@@ -50,5 +55,5 @@ returns c =
     let several = λ (two : 2 ≤ length codes). subst (λ (l : List Marked). Selects l c.ctor_count-ctors.result c.args.contract.now.span code) slice
     (c.in_ok-code.ensures.several (subst (λ (l : List Marked). 2 ≤ length l) (sym slice) two)) in
     subst (λ (rows : List Spanned). IsCode c.args.contract.now rows) (sym (ap (λ v. v.items) c.rows_of-rows.ensures))
-    (whole_code c.number_of_written.ensures c.args.contract.now codes c.ctor_count-ctors.result code all c.ctor_count-ctors.ensures
+    (whole_code c.number_of_written.ensures c.choices_count_few.ensures c.args.contract.now codes c.ctor_count-ctors.result code all c.ctor_count-ctors.ensures
     (omega (arith, count, some)) (omega (arith, count, few)) one several)
