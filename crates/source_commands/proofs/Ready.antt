@@ -1,6 +1,6 @@
--- The contract of a compiled source can be run, and its program has as many parameters.
-use Rattle.std.proofs.Common.{◌≡◌, ℕ, true, false, Bool, List, [], ◌∷◌, length, map, None, Some, refl, ap, ◌∙◌, subst, sym}
-use Rattle.std.specs.Prelude.{IsTrue, ◌==◌, ◌&&◌, slice_get}
+-- The program of a compiled source has as many parameters as its contract.
+use Rattle.std.proofs.Common.{◌≡◌, ℕ, true, false, Bool, List, [], ◌∷◌, length, map, refl, ap, ◌∙◌, subst, sym}
+use Rattle.std.specs.Prelude.{IsTrue, ◌==◌, ◌&&◌}
 use Rattle.std.proofs.lemmas.Bool.{eq-eqb}
 use Rattle.std.proofs.lemmas.List.{length-map}
 use Rattle.cash_base.specs.Source.{text_at}
@@ -9,27 +9,10 @@ use Rattle.cash_base.specs.declared.place.Span.{Span}
 use Rattle.cash_tree.specs.declared.Ty.{Ty}
 use Rattle.cash_tree.specs.declared.Contract.{Contract}
 use Rattle.cash_tree.specs.declared.Function.{Function}
-use Rattle.cash_tree.specs.Nodes.{AreSmall, tree_values}
-use Rattle.cash_symbols.specs.Lexemes.{Lexeme}
-use Rattle.cash_symbols.specs.DepthRules.{first_too_deep}
-use Rattle.cash_parser.specs.Files.{Tree, SpellsFile}
-use Rattle.type_soundness.specs.Room.{ContractsHaveRoom}
 use Rattle.artifact_json.specs.Artifact.{Artifact}
 use Rattle.cash_compile.specs.Describes.{described_param, described_function}
 use Rattle.cash_compile.specs.Compile.{IsCompiled}
-use Rattle.spend_meaning.specs.Meant.{HasRoom, take_as_many, has_parameters_of}
-
--- the law of trees: where no token is too deep, each expression is small
-abbrev pub SmallLaw : Type 0
-SmallLaw = (ts : List Lexeme) (tree : Tree) → SpellsFile ts tree → first_too_deep ts ≡ None → AreSmall (tree_values tree)
-
-pub has_room : (law : ContractsHaveRoom) (small : SmallLaw) (source : List ℕ) (contract : Contract Slot Ty) (program : Artifact)
-    → IsCompiled source contract program → HasRoom contract
-has_room law small source contract program h place function found =
-    let named = h.accepted.resolved in
-    let tree = named.parsed in
-    law source named.tree h.accepted.named contract named.names h.accepted.types.0
-    (small _ named.tree tree.spelled tree.shallow) place function found
+use Rattle.spend_meaning.specs.Meant.{take_as_many, has_parameters_of}
 
 both : (a b : Bool) → a ≡ true → b ≡ true → (a && b) ≡ true
 both true true is also = refl

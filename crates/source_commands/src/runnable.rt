@@ -5,16 +5,13 @@ ghost use Rattle.cash_compile.specs.Compile.{IsCompiled};
 ghost use Rattle.spend_meaning.specs.Meant.{HasRoom, has_parameters_of};
 
 use cash_compile::compile::Compiled;
-use cash_parser::trees_hold;
-use type_soundness::contracts_have_room;
+use cash_compile::laws::accepted_contracts_run;
 
 /// The room has places for each function of a compiled contract, and its program has as many parameters.
-#[tactic(auto, using(crate::proofs::Ready::has_room))]
 pub(crate) fn can_be_run(compiled: &Compiled)
     requires { IsCompiled compiled.now.program.source compiled.now.contract compiled.now.program }
     ensures room { HasRoom compiled.now.contract }
     ensures told { IsTrue (has_parameters_of compiled.now.program compiled.now.contract) }
 {
-    contracts_have_room();
-    trees_hold();
+    accepted_contracts_run();
 }

@@ -1,7 +1,7 @@
 -- A source that is refused isn't compiled.
 use Rattle.std.proofs.Common.{ℕ, List}
 use Rattle.cash_compile.specs.declared.refusal.Refusal.{Refusal}
-use Rattle.cash_compile.specs.declared.refusal.Refusal.TheVariants.{SourceTooLong, NotUtf8, Lex, Parse, Name, Typing, CodeTooLong, TooManyOps, NotBuilt, Memory}
+use Rattle.cash_compile.specs.declared.refusal.Refusal.TheVariants.{SourceTooLong, NotUtf8, Lex, Parse, Name, Typing, CodeTooLong, TooManyOps, Memory}
 use Rattle.cash_compile.specs.Compile.{IsRefused, IsUncompiled}
 
 pub uncompiled : (source : List ℕ) (refusal : Refusal) → IsRefused source refusal → IsUncompiled source refusal
@@ -13,5 +13,4 @@ uncompiled source (Name fault) h = h
 uncompiled source (Typing fault) h = h
 uncompiled source (CodeTooLong bytes code) h = absurd h
 uncompiled source (TooManyOps count code) h = absurd h
-uncompiled source (NotBuilt span) h = absurd h
 uncompiled source Memory h = h

@@ -15,7 +15,7 @@ use Rattle.name_scopes.specs.declared.fault.NameFault.TheVariants as names
 use Rattle.type_tables.specs.declared.fault.TypeFault.{TypeFault}
 use Rattle.type_tables.specs.declared.fault.TypeFault.TheVariants as types
 use Rattle.cash_compile.specs.declared.refusal.Refusal.{Refusal}
-use Rattle.cash_compile.specs.declared.refusal.Refusal.TheVariants.{SourceTooLong, NotUtf8, Lex, Parse, Name, Typing, CodeTooLong, TooManyOps, NotBuilt, Memory}
+use Rattle.cash_compile.specs.declared.refusal.Refusal.TheVariants.{SourceTooLong, NotUtf8, Lex, Parse, Name, Typing, CodeTooLong, TooManyOps, Memory}
 use Rattle.span_map.specs.Lines.{line_col}
 use Rattle.spend_debug.specs.Telling.{at_place}
 
@@ -113,5 +113,4 @@ refusal_text source (Name fault) = name_text source fault
 refusal_text source (Typing fault) = typing_text source fault
 refusal_text source (CodeTooLong bytes code) = refused_with (codes "CodeTooLong") bytes
 refusal_text source (TooManyOps count code) = refused_with (codes "TooManyOps") count
-refusal_text source (NotBuilt span) = out_of_memory
 refusal_text source Memory = out_of_memory

@@ -190,7 +190,6 @@ pub fn refusal_text(alloc: Global, source: &[u8], refusal: Refusal) -> Result<St
         Refusal::TooManyOps { count, .. } => {
             Ok(refused_with(alloc, "TooManyOps", count as usize)?)
         }
-        Refusal::NotBuilt { .. } => Err(Memory),
         Refusal::Memory => Err(Memory),
     }
 }
