@@ -1,5 +1,5 @@
 -- A spend, tried by the machine and by the run of its source.
-use Rattle.std.proofs.Common.{◌≡◌, ℕ, List, [], inl, inr, refl, sym, ap, ◌∙◌, subst, Some, Ok}
+use Rattle.std.proofs.Common.{◌≡◌, ℕ, zero, suc, ◌+◌, ◌-◌, ◌<◌, List, [], ◌∷◌, ◌++◌, length, inl, inr, refl, sym, ap, ◌∙◌, subst, Some, Ok, append_assoc, arith}
 use Rattle.std.specs.Prelude.{◌⊎◌}
 use Rattle.std.proofs.lemmas.Option.{same_Some}
 use Rattle.command_files.specs.declared.Stop.{Stop}
@@ -19,20 +19,25 @@ use Rattle.unlocker.specs.Spends.{world_of}
 use Rattle.spend_command.specs.Spent.{IsNoSpend, HasBytesRefusal}
 use Rattle.source_commands.specs.Judged.{IsVerdict, AreDecided}
 use Rattle.source_commands.specs.Meaning.{run_status, IsMeantBy, IsNoCall}
-use Rattle.workload.specs.Work.{verdict_of, IsTried}
+use Rattle.source_stages.specs.Stages.{max_source_len}
+use Rattle.cash_compile.specs.declared.refusal.Refusal.TheVariants.{SourceTooLong}
+use Rattle.cash_compile.specs.Compile.{IsCompiled}
+use Rattle.generated_spends.specs.Generated.{Generated, generated as generated_by}
+use Rattle.workload.specs.Work.{verdict_of, IsTried, AreTried, AreVerdicts}
+use Rattle.workload.specs.Refused.{IsSpendRefused, IsTooLong, HasContractCause}
 
 abbrev Either : Artifact → List ℕ → List ℕ → Type 0
 Either program bytes text = IsNoSpend program bytes text ⊎ IsNoCall program bytes text
 
-pub no_spend : {program : Artifact} {bytes : List ℕ} {stop : Stop} → HasBytesRefusal (IsNoSpend program bytes) stop → HasBytesRefusal (Either program bytes) stop
-no_spend {program} {bytes} {stops.Refused status text} h = (h.0, inl h.1)
-no_spend {program} {bytes} {stops.Unread} h = h
-no_spend {program} {bytes} {stops.Memory} h = h
+pub no_spend : (program : Artifact) (bytes : List ℕ) (stop : Stop) → HasBytesRefusal (IsNoSpend program bytes) stop → HasBytesRefusal (Either program bytes) stop
+no_spend program bytes (stops.Refused status text) h = (h.0, inl h.1)
+no_spend program bytes stops.Unread h = h
+no_spend program bytes stops.Memory h = h
 
-pub no_call : {program : Artifact} {bytes : List ℕ} {stop : Stop} → HasBytesRefusal (IsNoCall program bytes) stop → HasBytesRefusal (Either program bytes) stop
-no_call {program} {bytes} {stops.Refused status text} h = (h.0, inr h.1)
-no_call {program} {bytes} {stops.Unread} h = h
-no_call {program} {bytes} {stops.Memory} h = h
+pub no_call : (program : Artifact) (bytes : List ℕ) (stop : Stop) → HasBytesRefusal (IsNoCall program bytes) stop → HasBytesRefusal (Either program bytes) stop
+no_call program bytes (stops.Refused status text) h = (h.0, inr h.1)
+no_call program bytes stops.Unread h = h
+no_call program bytes stops.Memory h = h
 
 -- ---- both verdicts are the same
 
@@ -73,3 +78,51 @@ tried_alike contract program bytes first second s t byte other is at decided m =
     let runs : source_outcome contract call.ctor d.function call.args world ≡ m.meant.outcome =
         ap (λ (g : Function Slot Ty). source_outcome contract call.ctor g call.args world) f ∙ sym m.means.outcome.ends in
     by_verdict program.source _ _ s byte d.line is d.verdict ∙ ap verdict_of runs ∙ sym (by_run m.meant.outcome t other at m.status_is)
+
+-- ---- why a workload isn't done
+
+pub first_spend : (program : Artifact) (bytes : List ℕ) (others : List (List ℕ)) (stop : Stop) → HasBytesRefusal (Either program bytes) stop
+    → HasBytesRefusal (IsSpendRefused program (bytes ∷ others)) stop
+first_spend program bytes others (stops.Refused status text) h = (h.0, inl h.1)
+first_spend program bytes others stops.Unread h = h
+first_spend program bytes others stops.Memory h = h
+
+pub later_spend : (program : Artifact) (bytes : List ℕ) (others : List (List ℕ)) (stop : Stop) → HasBytesRefusal (IsSpendRefused program others) stop
+    → HasBytesRefusal (IsSpendRefused program (bytes ∷ others)) stop
+later_spend program bytes others (stops.Refused status text) h = (h.0, inr h.1)
+later_spend program bytes others stops.Unread h = h
+later_spend program bytes others stops.Memory h = h
+
+pub spend_cause : (generated : Generated) (contract : Contract Slot Ty) (program : Artifact) (stop : Stop) → IsCompiled generated.source contract program
+    → HasBytesRefusal (IsSpendRefused program generated.spends) stop → HasContractCause generated stop
+spend_cause generated contract program (stops.Refused status text) compiled h = inr (h.0, contract, program, compiled, h.1)
+spend_cause generated contract program stops.Unread compiled h = h
+spend_cause generated contract program stops.Memory compiled h = h
+
+pub long_cause : (generated : Generated) (stop : Stop) → max_source_len < length generated.source → IsTooLong stop → HasContractCause generated stop
+long_cause generated (stops.Refused status text) long h = inl (h.0, SourceTooLong (length generated.source), (long, refl), h.1)
+long_cause generated stops.Unread long h = h
+long_cause generated stops.Memory long h = tt
+
+-- ---- the verdicts of several contracts
+
+pub verdicts_more : (count from : ℕ) (old mid new also also_mid also_new : List ℕ) → (count ≡ 0 → ⊥)
+    → (more : List ℕ) × (mid ≡ old ++ more) × (also_mid ≡ also ++ more) × AreTried (generated_by from) more
+    → (more : List ℕ) × (new ≡ mid ++ more) × (also_new ≡ also_mid ++ more) × AreVerdicts (count - 1) (from + 1) more
+    → (more : List ℕ) × (new ≡ old ++ more) × (also_new ≡ also ++ more) × AreVerdicts count from more
+verdicts_more zero from old mid new also also_mid also_new some first rest = absurd (some refl)
+verdicts_more (suc n) from old mid new also also_mid also_new some (a, grown, also_grown, tried) (b, grows, also_grows, are) =
+    let less : suc n - 1 ≡ n = omega arith in (
+      a ++ b,
+      grows ∙ ap (λ (l : List ℕ). l ++ b) grown ∙ append_assoc old a b,
+      also_grows ∙ ap (λ (l : List ℕ). l ++ b) also_grown ∙ append_assoc also a b,
+      (a, b, refl, tried, subst (λ (k : ℕ). AreVerdicts k (from + 1) b) less are),
+    )
+
+-- ... where the source and the spend files are those of the generated contract
+pub spend_cause_of : (generated : Generated) (source : List ℕ) (spends : List (List ℕ)) (contract : Contract Slot Ty) (program : Artifact) (stop : Stop)
+    → source ≡ generated.source → spends ≡ generated.spends → IsCompiled source contract program
+    → HasBytesRefusal (IsSpendRefused program spends) stop → HasContractCause generated stop
+spend_cause_of generated source spends contract program stop same also compiled h =
+    spend_cause generated contract program stop (subst (λ (s : List ℕ). IsCompiled s contract program) same compiled)
+      (subst (λ (l : List (List ℕ)). HasBytesRefusal (IsSpendRefused program l) stop) also h)

@@ -1,6 +1,6 @@
 -- What the workload comes to: the verdicts of the spends of generated contracts, each by the run of its source.
-use Rattle.std.specs.Prelude.{◌≡◌, ℕ, zero, suc, ◌+◌, List, [], ◌++◌, length, sum, Ok}
-use Rattle.std.specs.List.{AllZip}
+use Rattle.std.specs.Prelude.{◌≡◌, ℕ, zero, suc, ◌+◌, List, [], ◌++◌, length, ◌==◌, Ok}
+use Rattle.std.specs.List.{AllZip, filter}
 use Rattle.sha2.specs.Sha256.{sha256}
 use Rattle.cash_base.specs.declared.place.Slot.{Slot}
 use Rattle.cash_tree.specs.declared.Ty.{Ty}
@@ -40,6 +40,10 @@ AreVerdicts zero from verdicts = verdicts ≡ []
 AreVerdicts (suc n) from verdicts =
     (first rest : List ℕ) × (verdicts ≡ first ++ rest) × AreTried (generated from) first × AreVerdicts n (from + 1) rest
 
+-- how many of them are 1
+abbrev pub good_ones : List ℕ → ℕ
+good_ones verdicts = length (filter (λ (verdict : ℕ). verdict == 1) verdicts)
+
 -- what is counted
 pub record Counts : Type 0 where
   pub contracts : ℕ
@@ -56,7 +60,7 @@ pub record IsWorked (contracts : ℕ) (counts : Counts) : Type 0 where
   pub counted : counts ≡ record {
       contracts = contracts;
       spends = length verdicts;
-      accepted = sum verdicts;
-      met = sum verdicts;
+      accepted = good_ones verdicts;
+      met = good_ones verdicts;
       digest = sha256 verdicts;
     }

@@ -1,8 +1,8 @@
 //! What a workload comes to.
 
-ghost use Rattle.std.specs.Prelude.{◌≡◌, ◌≤◌, List, length, sum, IfOk, IfErr, ℕ};
+ghost use Rattle.std.specs.Prelude.{◌≡◌, ◌≤◌, IfOk, IfErr};
 ghost use Rattle.command_files.specs.Files.{IsSaid};
-ghost use Rattle.workload.specs.Work.{IsWorked};
+ghost use Rattle.workload.specs.Work.{IsWorked, good_ones};
 ghost use Rattle.workload.specs.Refused.{HasWorkCause};
 
 use crate::trying::{Verdicts, add_contracts};
@@ -35,16 +35,11 @@ impl Model for Summary {
     } };
 }
 
-/// How many of these are 1, where the others are 0.
+/// How many of these are 1.
 fn ones(verdicts: &[u8]) -> usize
-    requires { Bits verdicts.now }
-    ensures { result ≡ sum verdicts.now }
+    ensures { result ≡ good_ones verdicts.now }
 {
-    let mut count = 0;
-    for verdict in verdicts {
-        count += usize::from(*verdict);
-    }
-    count
+    verdicts.iter().filter(|verdict| **verdict == 1).count()
 }
 
 /// Compiles so many generated contracts, and tries fifty spends of each, by the machine and by the run of the source.
