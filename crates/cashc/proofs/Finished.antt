@@ -1,5 +1,5 @@
 -- A command that nothing is in the way of is answered, or memory runs out.
-use Rattle.std.proofs.Common.{◌≡◌, ℕ, ◌≤◌, ◌<◌, ◌⊎◌, zero, suc, List, length, Option, Some, None, Result, Ok, Err, inl, inr, refl, sym, ap, ◌∙◌, subst, arith}
+use Rattle.std.proofs.Common.{◌≡◌, ℕ, ◌≤◌, ◌<◌, ◌⊎◌, List, length, Option, Some, None, Result, Ok, Err, inl, inr, sym, ap, ◌∙◌, subst, arith}
 use Rattle.std.specs.Global.{Global}
 use Rattle.std.specs.declared.string.String.{String}
 use Rattle.cash_base.specs.Failing.{◌>>=◌}
@@ -10,16 +10,12 @@ use Rattle.cash_tree.specs.declared.Contract.{Contract}
 use Rattle.slot_lowering.specs.Room.{room, ops_room}
 use Rattle.artifact_json.specs.Artifact.{Artifact}
 use Rattle.artifact_json.specs.Reading.{artifact_reading}
-use Rattle.artifact_json.specs.declared.fault.ArtifactFault.{ArtifactFault}
 use Rattle.spend_json.specs.Given.{SpendParts}
 use Rattle.spend_json.specs.Files.{spend_reading}
-use Rattle.spend_json.specs.declared.fault.SpendFault.{SpendFault}
 use Rattle.unlocker.specs.declared.BuildFault.{BuildFault}
 use Rattle.unlocker.specs.Spends.{Built, Handed, built_spend, built_call}
 use Rattle.spend_debug.specs.SpendDebug.{or_stop}
-use Rattle.spend_debug.specs.declared.spends.SpendStop.{SpendStop}
 use Rattle.spend_debug.specs.declared.spends.SpendStop.TheVariants.{Build}
-use Rattle.spend_debug.specs.Telling.{Told}
 use Rattle.spend_trace.specs.Judged.{told_by, report_of}
 use Rattle.source_stages.specs.Stages.{max_source_len}
 use Rattle.cash_compile.specs.declared.refusal.Refusal.{Refusal}
@@ -28,8 +24,8 @@ use Rattle.command_files.specs.Files.{IsFile, IsLonger, IsMissing}
 use Rattle.spend_command.specs.Spent.{max_input_len, IsFileRefusal, IsNoArtifact, IsNoSpend, IsSpendRefusal, LacksSpendFile}
 use Rattle.source_commands.specs.Sources.{IsRefusal, IsRefusalOf, LacksSpendOf}
 use Rattle.source_commands.specs.Meaning.{IsNoCall}
-use Rattle.cashc.specs.TopCall.{Command, compile_by, debug_by, trace_by, spend_by, meaning_by, command_of, IsRefusedFor, IsToldFor, IsTold, LacksFile, HasReadCauseFor, HasReadCause}
-use Rattle.cashc.specs.Complete.{HasFile, HasSource, HasSpend, HasBoth, HasProgram, CanBuild, CanCall, CanAnswer, IsQuiet}
+use Rattle.cashc.specs.TopCall.{Command, compile_by, debug_by, trace_by, spend_by, meaning_by, command_of, IsRefusedFor, LacksFile, HasReadCauseFor}
+use Rattle.cashc.specs.Complete.{HasFile, HasSource, HasBoth, HasProgram, CanBuild, CanCall, CanAnswer, IsQuiet}
 
 -- ---- a file that is there
 
@@ -182,29 +178,38 @@ never_lacks files (trace_by source spend) can missing = both_there CanBuild file
 never_lacks files (spend_by artifact spend) can missing = program_there files artifact spend can missing
 never_lacks files (meaning_by source spend) can missing = both_there CanCall files source spend can missing
 
-pub never_told : (law : FitLaw) (files : Option Files) (words : List (String Global)) (command : Command) (status : ℕ) (text : List ℕ)
-    → command_of words ≡ Some command → CanAnswer files command → IsTold files words status text → ⊥
-never_told law files words command status text named can told =
-    never_refused law files command can status text (subst (λ (o : Option Command). IsToldFor files o status text) named told)
+-- ---- at each exit
 
-pub never_unread : (files : Option Files) (words : List (String Global)) (command : Command) (before now : ℕ)
-    → command_of words ≡ Some command → CanAnswer files command → IsQuiet before now → HasReadCause files words before now → ⊥
-never_unread files words command before now named can quiet cause =
-    by_cause (subst (λ (o : Option Command). HasReadCauseFor files o before now) named cause)
-  where
-    by_cause : HasReadCauseFor files (Some command) before now → ⊥
-    by_cause (inl risen) = quiet risen
-    by_cause (inr lacks) = never_lacks files command can lacks
+abbrev pub IsAnswered : ℕ → Type 0
+IsAnswered status = (status ≡ 0) ⊎ (status ≡ 3) ⊎ (status ≡ 7)
 
--- what is left of the statuses
-pub left : (status : ℕ) → status ≤ 7 → (status ≡ 1 → ⊥) → (status ≡ 2 → ⊥) → (status ≡ 4 → ⊥) → (status ≡ 5 → ⊥) → (status ≡ 6 → ⊥)
-    → (status ≡ 0) ⊎ (status ≡ 3) ⊎ (status ≡ 7)
-left zero most one two four five six = inl refl
-left (suc zero) most one two four five six = absurd (one refl)
-left (suc (suc zero)) most one two four five six = absurd (two refl)
-left (suc (suc (suc zero))) most one two four five six = inr (inl refl)
-left (suc (suc (suc (suc zero)))) most one two four five six = absurd (four refl)
-left (suc (suc (suc (suc (suc zero))))) most one two four five six = absurd (five refl)
-left (suc (suc (suc (suc (suc (suc zero)))))) most one two four five six = absurd (six refl)
-left (suc (suc (suc (suc (suc (suc (suc zero))))))) most one two four five six = inr (inr refl)
-left (suc (suc (suc (suc (suc (suc (suc (suc n)))))))) most one two four five six = absurd (omega (arith, most))
+same_command : (words : List (String Global)) (a b : Command) → command_of words ≡ Some a → command_of words ≡ Some b → a ≡ b
+same_command words a b named again =
+    let one : Some a ≡ Some b = sym named ∙ again in
+    cc
+
+pub no_command : (words : List (String Global)) (command : Command) (result : ℕ) → command_of words ≡ None → command_of words ≡ Some command
+    → IsAnswered result
+no_command words command result none named =
+    let one : None ≡ Some command = sym none ∙ named in
+    absurd cc
+
+pub shown_whole : (result status before now : ℕ) → (result ≡ status) ⊎ (result ≡ 6) → (status ≡ 0) ⊎ (status ≡ 3) → (result ≡ 6 → Rose before now)
+    → IsQuiet before now → IsAnswered result
+shown_whole result status before now (inl is) (inl zero_is) stopped quiet = inl (is ∙ zero_is)
+shown_whole result status before now (inl is) (inr three_is) stopped quiet = inr (inl (is ∙ three_is))
+shown_whole result status before now (inr is) shown stopped quiet = absurd (quiet (stopped is))
+
+pub never_told : (law : FitLaw) (files : Option Files) (words : List (String Global)) (command seen : Command) (status : ℕ) (text : List ℕ) (result : ℕ)
+    → command_of words ≡ Some command → CanAnswer files command → command_of words ≡ Some seen → IsRefusedFor files seen status text
+    → IsAnswered result
+never_told law files words command seen status text result named can again refused =
+    absurd (never_refused law files seen
+    (subst (λ (d : Command). CanAnswer files d) (same_command words command seen named again) can) status text refused)
+
+pub never_unread : (files : Option Files) (words : List (String Global)) (command seen : Command) (before now result : ℕ)
+    → command_of words ≡ Some command → CanAnswer files command → command_of words ≡ Some seen → IsQuiet before now
+    → HasReadCauseFor files (Some seen) before now → IsAnswered result
+never_unread files words command seen before now result named can again quiet (inl risen) = absurd (quiet risen)
+never_unread files words command seen before now result named can again quiet (inr lacks) =
+    absurd (never_lacks files seen (subst (λ (d : Command). CanAnswer files d) (same_command words command seen named again) can) lacks)

@@ -2,4 +2,5 @@
 #![tactic(auto)]
 
 mod commands;
+pub mod laws;
 pub mod top_call;

@@ -1,14 +1,16 @@
 //! The program's top call.
 
-ghost use Rattle.std.specs.Prelude.{◌≡◌, ◌≢◌, ◌⊎◌, ◌≤◌, ℕ, List, None, [], option_map};
+ghost use Rattle.std.specs.Prelude.{◌≡◌, ◌≢◌, ◌⊎◌, ◌≤◌, ℕ, List, Some, None, [], option_map};
 ghost use Rattle.cash_base.specs.Outside.{Grew};
 ghost use Rattle.source_texts.specs.RefusalText.{out_of_memory};
 ghost use Rattle.cashc.specs.TopCall;
 ghost use Rattle.cashc.specs.TopCall.{read_failed, IsShown, IsTold, HasReadCause, Stopped, Tried};
+ghost use Rattle.cashc.specs.Complete.{CanAnswer, IsQuiet};
 ghost use Rattle.cashc.specs.Answering.{seen};
 
 use crate::commands::{Command, answer};
 use cash_base::{Sink, Store};
+use cash_compile::laws::small_contracts_fit;
 use command_files::{Output, Stop};
 use source_commands::NO_TIME;
 use std::alloc::Global;
@@ -72,8 +74,13 @@ pub fn cashc<S: Store, K: Sink, E: Sink>(
     ensures only { result ≤ 7 }
     // Words that are no command have no other answer than 2, or 6 where `err` fails.
     ensures always_misused { TopCall.command_of words.now ≡ None → (result ≡ 2) ⊎ (result ≡ 6) }
+    // Where the files are there and say what can be done, and nothing outside fails, only memory can be wanting.
+    ensures complete { (command : TopCall.Command) → TopCall.command_of words.now ≡ Some command → CanAnswer (S.files store.old) command
+        → IsQuiet (S.faults store.old) (S.faults store.new) → IsQuiet (K.faults out.old) (K.faults out.new)
+        → IsQuiet (E.faults err.old) (E.faults err.new) → (result ≡ 0) ⊎ (result ≡ 3) ⊎ (result ≡ 7) }
     ensures files { S.files store.new ≡ S.files store.old }
 {
+    small_contracts_fit();
     let Some(command) = command_of(words) else {
         return write(err, USAGE.as_bytes(), 2);
     };

@@ -1,6 +1,6 @@
 -- What a command on a source and a spend file shows or tells, joined from its parts.
-use Rattle.std.proofs.Common.{◌≡◌, ℕ, ◌≤◌, ◌⊎◌, List, [], length, Option, Result, Ok, Err, inl, inr, sym, subst, ◌∙◌}
-use Rattle.cash_base.specs.Outside.{Files, Rose}
+use Rattle.std.proofs.Common.{◌≡◌, ℕ, ◌≤◌, List, [], length, Option, Ok, Err, inl, inr, sym, subst, ◌∙◌}
+use Rattle.cash_base.specs.Outside.{Files}
 use Rattle.cash_base.specs.declared.place.Slot.{Slot}
 use Rattle.cash_tree.specs.declared.Ty.{Ty}
 use Rattle.cash_tree.specs.declared.Contract.{Contract}

@@ -1,5 +1,5 @@
 -- What is shown of a call of a correct program tells of the run of the source too.
-use Rattle.std.proofs.Common.{◌≡◌, ℕ, ◌++◌, List, [], length, map, Option, Some, Result, Ok, Err, inl, inr, refl, sym, ap, ◌∙◌, subst}
+use Rattle.std.proofs.Common.{◌≡◌, ℕ, ◌++◌, List, [], length, Option, Some, Result, Ok, inl, inr, refl, sym, ap, ◌∙◌, subst}
 use Rattle.std.specs.Prelude.{slice_get, codes}
 use Rattle.std.specs.Fmt.{decimal}
 use Rattle.std.proofs.lemmas.List.{length-map}
@@ -23,13 +23,11 @@ use Rattle.span_map.specs.Lines.{line_col}
 use Rattle.artifact_json.specs.Artifact.{Artifact, AbiCall}
 use Rattle.spend_json.specs.Given.{SpendParts}
 use Rattle.spend_json.specs.Files.{spend_reading}
-use Rattle.spend_json.specs.declared.fault.SpendFault.{SpendFault}
 use Rattle.unlocker.specs.declared.BuildFault.{BuildFault}
 use Rattle.unlocker.specs.Spends.{Built, Handed, built_spend, built_call, world_of, IsCallOf}
 use Rattle.unlocker.proofs.Spent.{scripts_of_call, call_fits}
 use Rattle.spend_debug.specs.SpendDebug.{known_place, or_stop}
-use Rattle.spend_debug.specs.declared.spends.SpendStop.{SpendStop}
-use Rattle.spend_debug.specs.Telling.{Told, LineCol, told_place, at_place, placed_name, cause_name, verdict_line, failure_line, lines_with, report_lines}
+use Rattle.spend_debug.specs.Telling.{Told, LineCol, told_place, at_place, placed_name, cause_name, verdict_line, lines_with, report_lines}
 use Rattle.spend_trace.specs.Judged.{outcome_of, told_by, report_of}
 use Rattle.spend_trace.specs.Traced.{Trace, traced, trace_of}
 use Rattle.cash_compile.specs.Describes.{described_param, described_function}

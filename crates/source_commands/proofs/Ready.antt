@@ -1,6 +1,6 @@
 -- The program of a compiled source has as many parameters as its contract.
 use Rattle.std.proofs.Common.{◌≡◌, ℕ, true, false, Bool, List, [], ◌∷◌, length, map, refl, ap, ◌∙◌, subst, sym}
-use Rattle.std.specs.Prelude.{IsTrue, ◌==◌, ◌&&◌}
+use Rattle.std.specs.Prelude.{IsTrue, ◌&&◌}
 use Rattle.std.proofs.lemmas.Bool.{eq-eqb}
 use Rattle.std.proofs.lemmas.List.{length-map}
 use Rattle.cash_base.specs.Source.{text_at}

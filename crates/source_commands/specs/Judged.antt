@@ -1,8 +1,9 @@
 -- What is shown of a spend of a source's program: the scripts and the verdict, beside the run of the source.
-use Rattle.std.specs.Prelude.{◌≡◌, ℕ, List, [], ◌++◌, codes, slice_get, Option, Some, Ok}
+use Rattle.std.specs.Prelude.{◌≡◌, ℕ, List, [], ◌++◌, slice_get, Option, Some, None, Ok}
 use Rattle.std.specs.List.{AllByRecursion}
 use Rattle.cash_base.specs.Outside.{Files}
 use Rattle.cash_base.specs.Element.{IsElement}
+use Rattle.cash_base.specs.declared.fault.MachineCause.TheVariants.{Shared}
 use Rattle.cash_base.specs.declared.place.Slot.{Slot}
 use Rattle.cash_tree.specs.declared.Ty.{Ty}
 use Rattle.cash_tree.specs.declared.Contract.{Contract}
@@ -20,8 +21,8 @@ use Rattle.span_map.specs.Lines.{line_col}
 use Rattle.artifact_json.specs.Artifact.{Artifact}
 use Rattle.spend_json.specs.Given.{SpendParts}
 use Rattle.spend_json.specs.Files.{spend_reading}
-use Rattle.unlocker.specs.Spends.{Built, Handed, built_call, world_of}
-use Rattle.spend_debug.specs.Telling.{lines_with, failure_line}
+use Rattle.unlocker.specs.Spends.{Handed, built_call, world_of}
+use Rattle.spend_debug.specs.Telling.{lines_with, verdict_line}
 use Rattle.spend_trace.specs.Judged.{outcome_of}
 use Rattle.spend_trace.specs.Traced.{Trace, trace_of}
 use Rattle.command_files.specs.Files.{IsFile}
@@ -32,11 +33,11 @@ use Rattle.source_texts.specs.TraceLines.{row_lines, trace_lines}
 -- ---- the run of the source beside the machine's spend
 
 -- What they come to together. Status 0: the run is met, and the spend accepted. Status 3: the run fails, and the spend is refused
--- in the redeem script. Nothing else goes together.
+-- in the redeem script, at the place of the run's failure and with its cause. Nothing else goes together.
 abbrev pub IsVerdict : List ℕ → SourceOutcome → MachineOutcome → ℕ → List ℕ → Type 0
-IsVerdict source Met Accepted status line = (status ≡ 0) × (line ≡ codes "accepted\n")
+IsVerdict source Met Accepted status line = (status ≡ 0) × (line ≡ verdict_line Accepted None)
 IsVerdict source (Failed span cause) (Refused Redeem at fault) status line =
-    (status ≡ 3) × (line ≡ failure_line (line_col source span.from) cause at)
+    (status ≡ 3) × (line ≡ verdict_line (Refused Redeem at (Shared cause)) (Some (line_col source span.from)))
 IsVerdict source run spend status line = ⊥
 
 -- The text of a call's spend: its scripts, some lines between, and a verdict that is that of the run of the function that is
