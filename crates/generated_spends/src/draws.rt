@@ -15,7 +15,9 @@ pub(crate) fn draws_of(number: u32) -> Draws
     ensures { result.state ≡ Generated.first_state number }
 {
     Draws {
-        state: u64::from(number).wrapping_mul(2862933555777941757).wrapping_add(3037000493),
+        state: u64::from(number)
+            .wrapping_mul(2862933555777941757)
+            .wrapping_add(3037000493),
     }
 }
 
@@ -26,6 +28,9 @@ pub(crate) fn draw(draws: &mut Draws, bound: u64) -> u64
     ensures state { draws.new.state ≡ (numbers.draw bound draws.old.state).state }
     ensures below { result < bound }
 {
-    draws.state = draws.state.wrapping_mul(6364136223846793005).wrapping_add(1442695040888963407);
+    draws.state = draws
+        .state
+        .wrapping_mul(6364136223846793005)
+        .wrapping_add(1442695040888963407);
     (draws.state >> 33) % bound
 }

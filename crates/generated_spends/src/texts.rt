@@ -46,7 +46,13 @@ fn add_numbered(
         return Ok(());
     }
     if choice == 3 {
-        add_between(alloc, text, "if (b < c) { r = r + ", number, "; } else { r = r - ")?;
+        add_between(
+            alloc,
+            text,
+            "if (b < c) { r = r + ",
+            number,
+            "; } else { r = r - ",
+        )?;
         add_between(alloc, text, "", number, "; } ")?;
         return Ok(());
     }

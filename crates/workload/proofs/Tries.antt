@@ -76,7 +76,7 @@ tried_alike contract program bytes first second s t byte other is at decided m =
     let f : d.function ≡ m.means.outcome.function = same_Some d.function m.means.outcome.function (sym d.called ∙ m.means.outcome.called) in
     let world = world_of m.spend call.scripts in
     let runs : source_outcome contract call.ctor d.function call.args world ≡ m.meant.outcome =
-        ap (λ (g : Function Slot Ty). source_outcome contract call.ctor g call.args world) f ∙ sym m.means.outcome.ends in
+    ap (λ (g : Function Slot Ty). source_outcome contract call.ctor g call.args world) f ∙ sym m.means.outcome.ends in
     by_verdict program.source _ _ s byte d.line is d.verdict ∙ ap verdict_of runs ∙ sym (by_run m.meant.outcome t other at m.status_is)
 
 -- ---- why a workload isn't done
@@ -125,4 +125,4 @@ pub spend_cause_of : (generated : Generated) (source : List ℕ) (spends : List 
     → HasBytesRefusal (IsSpendRefused program spends) stop → HasContractCause generated stop
 spend_cause_of generated source spends contract program stop same also compiled h =
     spend_cause generated contract program stop (subst (λ (s : List ℕ). IsCompiled s contract program) same compiled)
-      (subst (λ (l : List (List ℕ)). HasBytesRefusal (IsSpendRefused program l) stop) also h)
+    (subst (λ (l : List (List ℕ)). HasBytesRefusal (IsSpendRefused program l) stop) also h)

@@ -39,7 +39,10 @@ HasContractCause generated stops.Unread = ⊥
 HasContractCause generated stops.Memory = Unit {0}
 
 -- one of so many contracts is refused
+abbrev pub IsWorkRefused : ℕ → ℕ → List ℕ → Type 0
+IsWorkRefused contracts status text = (k : ℕ) × (k < contracts) × IsContractRefused (generated k) status text
+
 abbrev pub HasWorkCause : ℕ → Stop → Type 0
-HasWorkCause contracts (stops.Refused status text) = (k : ℕ) × (k < contracts) × IsContractRefused (generated k) status text.items
+HasWorkCause contracts (stops.Refused status text) = IsWorkRefused contracts status text.items
 HasWorkCause contracts stops.Unread = ⊥
 HasWorkCause contracts stops.Memory = Unit {0}

@@ -58,9 +58,9 @@ pub record IsWorked (contracts : ℕ) (counts : Counts) : Type 0 where
   pub verdicts : List ℕ
   pub are : AreVerdicts contracts 0 verdicts
   pub counted : counts ≡ record {
-      contracts = contracts;
-      spends = length verdicts;
-      accepted = good_ones verdicts;
-      met = good_ones verdicts;
-      digest = sha256 verdicts;
-    }
+    contracts = contracts;
+    spends = length verdicts;
+    accepted = good_ones verdicts;
+    met = good_ones verdicts;
+    digest = sha256 verdicts;
+  }

@@ -2,5 +2,8 @@
 #![tactic(auto)]
 
 pub mod lines;
+mod summary;
 mod trying;
 pub mod work;
+
+pub use summary::summary_of;

@@ -1,6 +1,6 @@
 //! The four lines of a workload.
 
-ghost use Rattle.std.specs.Prelude.{◌≡◌, ◌++◌, IfOk, OnOk, codes};
+ghost use Rattle.std.specs.Prelude.{◌≡◌, ◌≢◌, ◌++◌, [], IfOk, OnOk, codes};
 ghost use Rattle.workload.specs.Lines.{work_lines, count_line};
 
 use crate::work::Summary;
@@ -19,7 +19,8 @@ fn add_count(alloc: Global, text: &mut Vec<u8>, name: &str, n: usize) -> Result<
 
 /// The lines `contracts N`, `spends N`, `accepted N` and `digest HEX`. The only error is want of memory.
 pub fn work_text(alloc: Global, summary: &Summary) -> Result<Vec<u8>, AllocError>
-    ensures { IfOk result (λ text. text.items ≡ work_lines summary.now) }
+    ensures lines { IfOk result (λ text. text.items ≡ work_lines summary.now) }
+    ensures some { IfOk result (λ text. text.items ≢ []) }
 {
     let mut text = Vec::new(alloc);
     add_count(alloc, &mut text, "contracts", summary.contracts as usize)?;

@@ -13,6 +13,7 @@ use std::marker::Model;
 
 /// How many contracts and spends there are, how many spends the machine accepts and how many runs of the source are met, and the
 /// SHA-256 digest of one byte a spend, in order: 01 where the machine accepts it, and 00 where it doesn't.
+#[derive(Drop)]
 pub struct Summary {
     pub contracts: u32,
     pub spends: usize,
