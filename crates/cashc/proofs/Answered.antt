@@ -8,7 +8,8 @@ use Rattle.command_files.specs.declared.Stop.TheVariants.{Refused, Unread, Memor
 use Rattle.spend_command.specs.Spent.{IsNoSpend, HasSpendCause}
 use Rattle.source_commands.specs.Sources.{HasSourceFileCause, HasSpendCauseOf}
 use Rattle.source_commands.specs.Meaning.{IsNoCall}
-use Rattle.cashc.specs.TopCall.{Command, compile_by, debug_by, trace_by, spend_by, meaning_by, command_of, usage, IsToldFor, IsTold, HasReadCauseFor, HasReadCause}
+use Rattle.workload.specs.Refused.{HasWorkCause}
+use Rattle.cashc.specs.TopCall.{Command, compile_by, debug_by, trace_by, spend_by, meaning_by, workload_by, command_of, usage, IsToldFor, IsTold, HasReadCauseFor, HasReadCause}
 use Rattle.cashc.specs.Answering.{HasCause}
 
 -- words that are no command
@@ -57,3 +58,9 @@ pub meaning_stopped : (files : Option Files) (source spend : List ℕ) (before n
 meaning_stopped files source spend before now (Refused status text) cause = cause
 meaning_stopped files source spend before now Unread cause = cause
 meaning_stopped files source spend before now Memory cause = tt
+
+pub workload_stopped : (files : Option Files) (contracts : ℕ) (before now : ℕ) (stop : Stop) → HasWorkCause contracts stop
+    → HasCause files (workload_by contracts) before now stop
+workload_stopped files contracts before now (Refused status text) cause = cause
+workload_stopped files contracts before now Unread cause = absurd cause
+workload_stopped files contracts before now Memory cause = tt

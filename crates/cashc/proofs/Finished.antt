@@ -24,7 +24,7 @@ use Rattle.command_files.specs.Files.{IsFile, IsLonger, IsMissing}
 use Rattle.spend_command.specs.Spent.{max_input_len, IsFileRefusal, IsNoArtifact, IsNoSpend, IsSpendRefusal, LacksSpendFile}
 use Rattle.source_commands.specs.Sources.{IsRefusal, IsRefusalOf, LacksSpendOf}
 use Rattle.source_commands.specs.Meaning.{IsNoCall}
-use Rattle.cashc.specs.TopCall.{Command, compile_by, debug_by, trace_by, spend_by, meaning_by, command_of, IsRefusedFor, LacksFile, HasReadCauseFor}
+use Rattle.cashc.specs.TopCall.{Command, compile_by, debug_by, trace_by, spend_by, meaning_by, workload_by, command_of, IsRefusedFor, LacksFile, HasReadCauseFor}
 use Rattle.cashc.specs.Complete.{HasFile, HasSource, HasBoth, HasProgram, CanBuild, CanCall, CanAnswer, IsQuiet}
 
 -- ---- a file that is there
@@ -170,6 +170,7 @@ never_refused law files (trace_by source spend) can status text refused =
 never_refused law files (spend_by artifact spend) can status text refused = program_read files artifact spend can text refused.1
 never_refused law files (meaning_by source spend) can status text refused =
     both_read law CanCall IsNoCall always_calls files source spend can status text refused
+never_refused law files (workload_by contracts) can status text refused = can status text refused
 
 never_lacks : (files : Option Files) (command : Command) → CanAnswer files command → LacksFile files command → ⊥
 never_lacks files (compile_by source time) can missing = not_missing files source can.0 can.1.found missing
@@ -177,6 +178,7 @@ never_lacks files (debug_by source spend) can missing = both_there CanBuild file
 never_lacks files (trace_by source spend) can missing = both_there CanBuild files source spend can missing
 never_lacks files (spend_by artifact spend) can missing = program_there files artifact spend can missing
 never_lacks files (meaning_by source spend) can missing = both_there CanCall files source spend can missing
+never_lacks files (workload_by contracts) can missing = missing
 
 -- ---- at each exit
 

@@ -12,7 +12,8 @@ use Rattle.spend_json.specs.Files.{spend_reading}
 use Rattle.unlocker.specs.Spends.{Built, built_spend, Handed, built_call}
 use Rattle.cash_compile.specs.Compile.{IsAccepted, IsCompiled, most_bytes, most_opcodes}
 use Rattle.spend_command.specs.Spent.{max_input_len}
-use Rattle.cashc.specs.TopCall.{Command, compile_by, debug_by, trace_by, spend_by, meaning_by}
+use Rattle.workload.specs.Refused.{IsWorkRefused}
+use Rattle.cashc.specs.TopCall.{Command, compile_by, debug_by, trace_by, spend_by, meaning_by, workload_by}
 
 -- the store tells its files, and has this one
 abbrev pub HasFile : Option Files → List ℕ → List ℕ → Type 0
@@ -63,13 +64,14 @@ pub record HasProgram (files : Option Files) (artifact_name spend_name : List �
   pub has_spend : HasSpend files spend_name spend
   pub can : CanBuild program spend
 
--- nothing that a command reads is in the way of its answer
+-- nothing that a command reads is in the way of its answer; of a workload none of its contracts is refused
 abbrev pub CanAnswer : Option Files → Command → Type 0
 CanAnswer files (compile_by source time) = (bytes : List ℕ) × HasSource files source bytes
 CanAnswer files (debug_by source spend) = HasBoth CanBuild files source spend
 CanAnswer files (trace_by source spend) = HasBoth CanBuild files source spend
 CanAnswer files (spend_by artifact spend) = HasProgram files artifact spend
 CanAnswer files (meaning_by source spend) = HasBoth CanCall files source spend
+CanAnswer files (workload_by contracts) = (status : ℕ) (text : List ℕ) → IsWorkRefused contracts status text → ⊥
 
 -- no count of faults rose
 abbrev pub IsQuiet : ℕ → ℕ → Type 0

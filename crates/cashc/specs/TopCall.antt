@@ -1,5 +1,5 @@
 -- What the program promises: what each command writes, status by status.
-use Rattle.std.specs.Prelude.{◌≡◌, ℕ, ◌⊎◌, ◌&&◌, nat_le, List, [], ◌∷◌, length, codes, Option, Some, None, if◌then◌else◌, string_bytes}
+use Rattle.std.specs.Prelude.{◌≡◌, ℕ, ◌+◌, ◌-◌, ◌*◌, ◌⊎◌, Bool, ◌&&◌, nat_le, List, [], ◌∷◌, length, codes, Option, Some, None, option_map, if◌then◌else◌, string_bytes}
 use Rattle.std.specs.Str.{bytes_eq}
 use Rattle.std.specs.Global.{Global}
 use Rattle.std.specs.declared.string.String.{String}
@@ -10,13 +10,15 @@ use Rattle.source_commands.specs.Sources.{IsRefusal, IsRefusalOf, LacksSpendOf}
 use Rattle.source_commands.specs.Compiled.{IsArtifactOf}
 use Rattle.source_commands.specs.Judged.{IsDebugged, IsTraced}
 use Rattle.source_commands.specs.Meaning.{IsMeantIn, IsNoCall}
+use Rattle.workload.specs.Lines.{IsSummary}
+use Rattle.workload.specs.Refused.{IsWorkRefused}
 
 -- ---- the words
 
 abbrev pub usage : List ℕ
 usage = codes "usage: cashc compile FILE [--updated-at TEXT] | debug SOURCE SPEND | trace SOURCE SPEND | spend ARTIFACT SPEND | meaning SOURCE SPEND | workload NUMBER\n"
 
--- a command, with the names of its files
+-- a command, with the names of its files, or how much it does
 pub data Command : Type 0 where
   -- a source, and when it was compiled
   compile_by : List ℕ → List ℕ → Command
@@ -24,6 +26,8 @@ pub data Command : Type 0 where
   trace_by : List ℕ → List ℕ → Command
   spend_by : List ℕ → List ℕ → Command
   meaning_by : List ℕ → List ℕ → Command
+  -- so many generated contracts
+  workload_by : ℕ → Command
 
 -- when a program was compiled, where nothing is said
 abbrev pub no_time : List ℕ
@@ -43,10 +47,33 @@ with_time command source flag time =
     if bytes_eq command (codes "compile") && (bytes_eq flag (codes "--updated-at") && nat_le (length time) 64)
     then Some (compile_by source time) else None
 
--- the command that the words are, if they are one that is built so far
+-- A number from 1 to 200 in decimal digits, without a leading zero.
+abbrev pub is_digit_from : ℕ → ℕ → Bool
+is_digit_from least byte = nat_le least byte && nat_le byte 57
+
+abbrev pub digits_number : List ℕ → Option ℕ
+digits_number (a ∷ []) = if is_digit_from 49 a then Some (a - 48) else None
+digits_number (a ∷ b ∷ []) = if is_digit_from 49 a && is_digit_from 48 b then Some ((a - 48) * 10 + (b - 48)) else None
+digits_number (a ∷ b ∷ c ∷ []) =
+    if is_digit_from 49 a && (is_digit_from 48 b && is_digit_from 48 c) then Some ((a - 48) * 100 + (b - 48) * 10 + (c - 48)) else None
+digits_number _ = None
+
+abbrev pub up_to_200 : Option ℕ → Option ℕ
+up_to_200 (Some n) = if nat_le n 200 then Some n else None
+up_to_200 None = None
+
+abbrev pub work_count : List ℕ → Option ℕ
+work_count word = up_to_200 (digits_number word)
+
+-- a command with one word
+abbrev pub with_one_word : List ℕ → List ℕ → Option Command
+with_one_word command word =
+    if bytes_eq command (codes "compile") then Some (compile_by word no_time)
+    else (if bytes_eq command (codes "workload") then option_map workload_by (work_count word) else None)
+
+-- the command that the words are, if they are one
 abbrev pub command_of : List (String Global) → Option Command
-command_of (command ∷ source ∷ []) =
-    if bytes_eq (string_bytes command) (codes "compile") then Some (compile_by (string_bytes source) no_time) else None
+command_of (command ∷ word ∷ []) = with_one_word (string_bytes command) (string_bytes word)
 command_of (command ∷ first ∷ second ∷ []) = with_two_files (string_bytes command) (string_bytes first) (string_bytes second)
 command_of (command ∷ source ∷ flag ∷ time ∷ []) =
     with_time (string_bytes command) (string_bytes source) (string_bytes flag) (string_bytes time)
@@ -60,6 +87,7 @@ IsShownFor files (Some (debug_by source spend)) status text = IsDebugged files s
 IsShownFor files (Some (trace_by source spend)) status text = IsTraced files source spend status text
 IsShownFor files (Some (spend_by artifact spend)) status text = IsSpent files artifact spend status text
 IsShownFor files (Some (meaning_by source spend)) status text = IsMeantIn files source spend status text
+IsShownFor files (Some (workload_by contracts)) status text = (status ≡ 0) × IsSummary contracts text
 IsShownFor files None status text = ⊥
 
 -- what statuses 0 and 3 write to `out`
@@ -75,6 +103,7 @@ IsRefusedFor files (debug_by source spend) status text = IsRefusalOf IsNoSpend f
 IsRefusedFor files (trace_by source spend) status text = IsRefusalOf IsNoSpend files source spend status text
 IsRefusedFor files (spend_by artifact spend) status text = (status ≡ 4) × IsSpendRefusal files artifact spend text
 IsRefusedFor files (meaning_by source spend) status text = IsRefusalOf IsNoCall files source spend status text
+IsRefusedFor files (workload_by contracts) status text = IsWorkRefused contracts status text
 
 -- the words are no command, or their command is refused
 abbrev pub IsToldFor : Option Files → Option Command → ℕ → List ℕ → Type 0
@@ -98,6 +127,7 @@ LacksFile files (debug_by source spend) = LacksSpendOf files source spend
 LacksFile files (trace_by source spend) = LacksSpendOf files source spend
 LacksFile files (spend_by artifact spend) = LacksSpendFile files artifact spend
 LacksFile files (meaning_by source spend) = LacksSpendOf files source spend
+LacksFile files (workload_by contracts) = ⊥
 
 -- the cause of status 5: the store had a fault, or lacks a file
 abbrev pub HasReadCauseFor : Option Files → Option Command → ℕ → ℕ → Type 0

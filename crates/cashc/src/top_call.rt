@@ -1,12 +1,12 @@
 //! The program's top call.
 
-ghost use Rattle.std.specs.Prelude.{◌≡◌, ◌≢◌, ◌⊎◌, ◌≤◌, ℕ, List, Some, None, [], option_map};
+ghost use Rattle.std.specs.Prelude.{◌≡◌, ◌≢◌, ◌⊎◌, ◌≤◌, ◌-◌, ℕ, List, Some, None, [], option_map, IfSome};
 ghost use Rattle.cash_base.specs.Outside.{Grew};
 ghost use Rattle.source_texts.specs.RefusalText.{out_of_memory};
 ghost use Rattle.cashc.specs.TopCall;
 ghost use Rattle.cashc.specs.TopCall.{read_failed, IsShown, IsTold, HasReadCause, Stopped, Tried};
 ghost use Rattle.cashc.specs.Complete.{CanAnswer, IsQuiet};
-ghost use Rattle.cashc.specs.Answering.{seen};
+ghost use Rattle.cashc.specs.Answering.{seen, IsSmall};
 
 use crate::commands::{Command, answer};
 use cash_base::{Sink, Store};
@@ -32,11 +32,13 @@ const OUT_OF_MEMORY: &str = "out of memory\n";
 /// HEX` and `locking HEX`, and then `accepted`, or `refused LINE:COL CAUSE opcode N`: the place in the source, or the script where
 /// there is none, the cause, and the index of the instruction in its script. `trace SOURCE SPEND` writes before this verdict a line
 /// for each instruction that is executed. `spend ARTIFACT SPEND` reads an artifact in place of a source. `meaning SOURCE SPEND` writes
-/// in the place of the verdict how the run of the source ends: `met`, or `failed LINE:COL CAUSE`. The statuses are
+/// in the place of the verdict how the run of the source ends: `met`, or `failed LINE:COL CAUSE`. `workload NUMBER` compiles so many
+/// generated contracts, from 1 to 200, tries fifty spends of each, and writes the lines `contracts N`, `spends N`, `accepted N` and
+/// `digest HEX`. The statuses are
 ///
 /// - 0: the artifact was written to `out`, or the scripts of a spend that is accepted or met.
 /// - 1: the source is refused: the line on `err` is that of its refusal.
-/// - 2: the words are no command that is built so far.
+/// - 2: the words are no command.
 /// - 3: the machine refuses the spend, or for `meaning` the run fails; the lines were written to `out`.
 /// - 4: the artifact is refused, the spend file, or a value in it: a line on `err` begins with `input`.
 /// - 5: the store had a fault, or has no such file. A spend file is read only beside a source that is compiled, or an artifact that
@@ -94,13 +96,11 @@ pub fn cashc<S: Store, K: Sink, E: Sink>(
 
 /// The command that the words are, if they are one.
 fn command_of(words: &[String]) -> Option<Command<'_>>
-    ensures { option_map seen result ≡ TopCall.command_of words.now }
+    ensures named { option_map seen result ≡ TopCall.command_of words.now }
+    ensures small { IfSome result (λ command. IsSmall (seen command)) }
 {
     match words {
-        [command, source] if command.as_str() == "compile" => Some(Command::Compile {
-            source: source.as_str(),
-            updated: NO_TIME,
-        }),
+        [command, word] => with_one_word(command.as_str(), word.as_str()),
         [command, first, second] => {
             with_two_files(command.as_str(), first.as_str(), second.as_str())
         }
@@ -114,9 +114,66 @@ fn command_of(words: &[String]) -> Option<Command<'_>>
     }
 }
 
+/// A command with one word.
+fn with_one_word<'a>(command: &str, word: &'a str) -> Option<Command<'a>>
+    ensures named { option_map seen result ≡ TopCall.with_one_word command.now word.now }
+    ensures small { IfSome result (λ command. IsSmall (seen command)) }
+{
+    match command {
+        "compile" => Some(Command::Compile {
+            source: word,
+            updated: NO_TIME,
+        }),
+        "workload" => {
+            let contracts = work_count(word)?;
+            Some(Command::Workload { contracts })
+        }
+        _ => None,
+    }
+}
+
+/// A number from 1 to 200 in decimal digits, without a leading zero.
+fn work_count(word: &str) -> Option<u32>
+    ensures count { result ≡ TopCall.work_count word.now }
+    ensures small { IfSome result (λ count. count ≤ 200) }
+{
+    let number = digits_number(word.as_bytes())?;
+    if number <= 200 { Some(number) } else { None }
+}
+
+fn is_digit_from(least: u8, byte: u8) -> bool
+    ensures { result ≡ TopCall.is_digit_from least byte }
+{
+    least <= byte && byte <= b'9'
+}
+
+/// The number that at most three digits stand for, the first of which is no zero.
+fn digits_number(digits: &[u8]) -> Option<u32>
+    ensures { result ≡ TopCall.digits_number digits.now }
+{
+    match *digits {
+        [a] if is_digit_from(b'1', a) => Some(digit(a)),
+        [a, b] if is_digit_from(b'1', a) && is_digit_from(b'0', b) => Some(
+            digit(a) * 10 + digit(b),
+        ),
+        [a, b, c] if is_digit_from(b'1', a) && (is_digit_from(b'0', b) && is_digit_from(b'0', c)) =>
+            { Some(digit(a) * 100 + digit(b) * 10 + digit(c)) }
+        _ => None,
+    }
+}
+
+fn digit(byte: u8) -> u32
+    requires { 48 ≤ byte }
+    ensures value { result ≡ byte - 48 }
+    ensures small { result ≤ 207 }
+{
+    u32::from(byte - b'0')
+}
+
 /// A command with two files.
 fn with_two_files<'a>(command: &str, first: &'a str, second: &'a str) -> Option<Command<'a>>
-    ensures { option_map seen result ≡ TopCall.with_two_files command.now first.now second.now }
+    ensures named { option_map seen result ≡ TopCall.with_two_files command.now first.now second.now }
+    ensures small { IfSome result (λ command. IsSmall (seen command)) }
 {
     match command {
         "debug" => Some(Command::Debug {
@@ -146,7 +203,8 @@ fn with_time<'a>(
     flag: &str,
     updated: &'a str,
 ) -> Option<Command<'a>>
-    ensures { option_map seen result ≡ TopCall.with_time command.now source.now flag.now updated.now }
+    ensures named { option_map seen result ≡ TopCall.with_time command.now source.now flag.now updated.now }
+    ensures small { IfSome result (λ command. IsSmall (seen command)) }
 {
     if command == "compile" && flag == "--updated-at" && updated.len() <= LONGEST_TIME {
         return Some(Command::Compile { source, updated });

@@ -70,7 +70,12 @@ fn debugged_in<S: Store>(
     Ok(output)
 }
 
-fn debugged(alloc: Global, compiled: &Compiled, bytes: &[u8]) -> Result<Output, Stop>
+/// The three scripts and the verdict of the spend of a program that the bytes of a spend file ask for, with status 0 where the machine
+/// accepts it and 3 where it refuses. A verdict on a call is that of the run of the source.
+///
+/// `Refused` has status 4 and comes exactly where the bytes are no spend file, or ask for what no scripts can be built of. `Memory`
+/// comes where memory ran out.
+pub fn debugged(alloc: Global, compiled: &Compiled, bytes: &[u8]) -> Result<Output, Stop>
     requires compiled { IsCompiled compiled.now.program.source compiled.now.contract compiled.now.program }
     requires few { HasFewInputs compiled.now.program }
     ensures reported { IfOk result (λ output.

@@ -10,7 +10,7 @@ mod sources;
 mod tracing;
 
 pub use compiling::compile_file;
-pub use debugging::debug_files;
-pub use meaning::meaning_files;
-pub use sources::{NO_TIME, compiled_in};
+pub use debugging::{debug_files, debugged};
+pub use meaning::{meaning_files, meant};
+pub use sources::{NO_TIME, compiled, compiled_in};
 pub use tracing::trace_files;

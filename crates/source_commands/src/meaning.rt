@@ -79,7 +79,12 @@ fn meant_in<S: Store>(
     Ok(output)
 }
 
-fn meant(alloc: Global, compiled: &Compiled, bytes: &[u8]) -> Result<Output, Stop>
+/// The three scripts of the call of a program that the bytes of a spend file ask for, and how the run of the source ends in the world
+/// of its spend, with status 0 where it is met and 3 where it fails.
+///
+/// `Refused` has status 4 and comes exactly where the bytes are no spend file, have pushes in place of a call, or ask for what no
+/// scripts can be built of. `Memory` comes where memory ran out.
+pub fn meant(alloc: Global, compiled: &Compiled, bytes: &[u8]) -> Result<Output, Stop>
     requires compiled { IsCompiled compiled.now.program.source compiled.now.contract compiled.now.program }
     requires few { HasFewInputs compiled.now.program }
     requires short { length compiled.now.program.source ≤ max_source_len }

@@ -45,8 +45,12 @@ pub fn compiled_in<S: Store>(
     Ok(compiled)
 }
 
+/// The contract and the program of a source of at most 65,536 bytes, compiled at this time.
+///
+/// `Refused` has status 1 and comes exactly where the source is refused; its text is that of the refusal. `Memory` comes where memory
+/// ran out.
 #[tactic(auto, using(crate::proofs::Causes::few_inputs))]
-fn compiled(alloc: Global, source: &[u8], updated: &str) -> Result<Compiled, Stop>
+pub fn compiled(alloc: Global, source: &[u8], updated: &str) -> Result<Compiled, Stop>
     requires { length source.now ≤ max_source_len }
     ensures built { IfOk result (λ compiled. IsCompiled source.now compiled.contract compiled.program) }
     ensures updated { IfOk result (λ compiled. compiled.program.updated ≡ updated.now) }
