@@ -3,3 +3,5 @@ mod Rows
 mod Growing
 mod Reading
 mod Pointed
+mod PairSteps
+mod Told

@@ -6,6 +6,7 @@ ghost use Rattle.cash_tree.specs.declared.Contract.{Contract};
 ghost use Rattle.cash_tree.specs.declared.Function.{Function};
 ghost use Rattle.slot_code.specs.declared.slots.SlotFunction.{SlotFunction};
 ghost use Rattle.slot_lowering.specs.Functions.{Arranges, CanLowerFunction, HasCounts};
+ghost use Rattle.lowered_names.specs.Order.{IsText, IsTold};
 ghost use Rattle.lowered_names.specs.Points.{HasPoints};
 
 /// Where a statement of a lowered function begins, a statement of its source with the same span does, and the same names are live
@@ -14,4 +15,11 @@ ghost use Rattle.lowered_names.specs.Points.{HasPoints};
 pub fn statements_begin_alike()
     ensures { (contract : Contract Slot Ty) (f : Function Slot Ty) (g : SlotFunction) → CanLowerFunction contract f
         → HasCounts contract f g → Arranges f g → HasPoints contract f g }
+{}
+
+/// Where the statements of a function stand in the order of its text, so do the spans of its slot code: each operation's statement
+/// is the innermost one that holds it, and behind a span none stands that ends before it begins.
+#[tactic(auto, using(crate::proofs::Told::told_function))]
+pub fn spans_are_in_order()
+    ensures { (f : Function Slot Ty) (g : SlotFunction) → Arranges f g → IsText f → IsTold f g }
 {}

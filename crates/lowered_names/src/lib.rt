@@ -3,4 +3,4 @@
 
 pub mod laws;
 
-pub use laws::statements_begin_alike;
+pub use laws::{spans_are_in_order, statements_begin_alike};
