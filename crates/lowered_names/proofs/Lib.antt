@@ -5,3 +5,4 @@ mod Reading
 mod Pointed
 mod PairSteps
 mod Told
+mod Apart

@@ -1,13 +1,14 @@
 -- The pairs of spans of arranged rows are those of their statements, in the order of the text.
 use Rattle.std.proofs.Common.{◌≡◌, ◌⊎◌, inl, inr, ℕ, ◌<◌, ◌≤◌, ◌+◌, Bool, true, false, List, [], ◌∷◌, ◌++◌, map, refl, sym, ap, ◌∙◌, subst, arith, append_assoc}
 use Rattle.std.specs.Prelude.{◌&&◌, ◌||◌, nat_le, nat_lt, Option, Some, None, unwrap_or}
-use Rattle.std.specs.List.{list_all}
+use Rattle.std.specs.List.{list_all, AllZip}
 use Rattle.std.proofs.lemmas.List.{append-nil, map-append}
 use Rattle.std.proofs.lemmas.Bool.{leb-true, ltb-true}
 use Rattle.std.proofs.lemmas.Bool.Decides.{nat_tests}
 use Rattle.cash_base.specs.declared.place.Slot.{Slot}
 use Rattle.cash_base.specs.declared.place.Span.{Span}
 use Rattle.cash_tree.specs.declared.Ty.{Ty}
+use Rattle.cash_tree.specs.declared.Contract.{Contract}
 use Rattle.cash_tree.specs.declared.Function.{Function}
 use Rattle.cash_tree.specs.declared.Stmt.{Stmt}
 use Rattle.cash_tree.specs.declared.StmtKind.{StmtKind}
@@ -29,13 +30,13 @@ use Rattle.slot_expressions.proofs.ReadRows.{same_span}
 use Rattle.slot_lowering.specs.Scoped.{part_of as scoped_part, all_names}
 use Rattle.slot_lowering.specs.Functions.{Arranges}
 use Rattle.slot_lowering.specs.Arranged.{Valued, IsSimple, defines as is_define, defines_both, assigns as is_assign, checks_time, checks_age, requires_it, ArrangedKind, simple, choice, ArrangedBlock, inner, last, ArrangedBody, nothing_left, in_turn, ended_names}
-use Rattle.lowered_names.specs.Order.{Pair, pairs_of, pairs_at, code_pairs, places_of, places_at, body_places, Text, text_of, text_at, value_between, in_order, IsText, Every, IsPlace, Holds, IsInnermost, AreOrdered, IsTold}
+use Rattle.lowered_names.specs.Order.{Pair, pairs_of, pairs_at, code_pairs, places_of, places_at, body_places, Text, text_of, text_at, value_between, in_order, IsText, Every, IsPlace, Holds, IsInnermost, AreOrdered, IsTold, IsTextOf, AreTold, function_text, all_pairs, all_places}
 use Rattle.lowered_names.proofs.Growing.{front_of, span_same}
 use Rattle.lowered_names.proofs.PairSteps.{TypedStmt, whole_pairs, value_pair, time_pairs, age_pairs, require_pairs, define_pairs, define_pair_pairs, assign_pairs, end_pairs, if_pairs, whole_places, whole_text, define_places, pair_places, assign_places, time_places, age_places, require_places, if_places, define_text, pair_text, assign_text, time_text, age_text, require_text, if_text}
 
 -- ---- lists
 
-every_append : {A : Type 0} (P : A → Type 0) (xs ys : List A) → Every P xs → Every P ys → Every P (xs ++ ys)
+pub every_append : {A : Type 0} (P : A → Type 0) (xs ys : List A) → Every P xs → Every P ys → Every P (xs ++ ys)
 every_append P [] ys h t = t
 every_append P (x ∷ xs) ys h t = (h.0, every_append P xs ys h.1 t)
 
@@ -47,7 +48,7 @@ every_right : {A : Type 0} (P : A → Type 0) (xs ys : List A) → Every P (xs +
 every_right P [] ys h = h
 every_right P (x ∷ xs) ys h = every_right P xs ys h.1
 
-every_as : {A : Type 0} (P Q : A → Type 0) → ((x : A) → P x → Q x) → (xs : List A) → Every P xs → Every Q xs
+pub every_as : {A : Type 0} (P Q : A → Type 0) → ((x : A) → P x → Q x) → (xs : List A) → Every P xs → Every Q xs
 every_as P Q to [] h = tt
 every_as P Q to (x ∷ xs) h = (to x h.0, every_as P Q to xs h.1)
 
@@ -67,12 +68,12 @@ pairs_append (i ∷ a) b = ap (λ l. pairs_of i ++ l) (pairs_append a b) ∙ sym
 -- ---- places in the text
 
 -- a span that isn't empty, between two places
-record In (from to : ℕ) (v : Span) : Type 0 where
-  low : from ≤ v.from
-  some : v.from < v.to
-  high : v.to ≤ to
+pub record In (from to : ℕ) (v : Span) : Type 0 where
+  pub low : from ≤ v.from
+  pub some : v.from < v.to
+  pub high : v.to ≤ to
 
-in_wider : {a b c d : ℕ} → c ≤ a → b ≤ d → (v : Span) → In a b v → In c d v
+pub in_wider : {a b c d : ℕ} → c ≤ a → b ≤ d → (v : Span) → In a b v → In c d v
 in_wider {a} {b} {c} {d} low high v h = record { low = omega (arith, low, h.low); some = h.some; high = omega (arith, high, h.high) }
 
 record Inside (from to : ℕ) (pair : Pair) : Type 0 where
@@ -336,19 +337,19 @@ simple_text (requires_it value is) = record { pairs = require_pairs; places = ap
 
 -- ---- the order of the text
 
-less_is : (from to : ℕ) (texts : List Text) → in_order from to texts ≡ true → from ≤ to
+pub less_is : (from to : ℕ) (texts : List Text) → in_order from to texts ≡ true → from ≤ to
 less_is from to [] is = leb-true from to is
 less_is from to (t ∷ more) is =
     let first = and_left (nat_le from t.span.from && nat_lt t.span.from t.span.to) (t.fits && in_order t.span.to to more) is in
     let rest = less_is t.span.to to more (and_right t.fits (in_order t.span.to to more) (and_right (nat_le from t.span.from && nat_lt t.span.from t.span.to) (t.fits && in_order t.span.to to more) is)) in
     omega (arith, rest, leb-true from t.span.from (and_left (nat_le from t.span.from) (nat_lt t.span.from t.span.to) first), ltb-true t.span.from t.span.to (and_right (nat_le from t.span.from) (nat_lt t.span.from t.span.to) first))
 
-record Cut (from to : ℕ) (xs ys : List Text) : Type 0 where
-  mid : ℕ
-  front : in_order from mid xs ≡ true
-  back : in_order mid to ys ≡ true
+pub record Cut (from to : ℕ) (xs ys : List Text) : Type 0 where
+  pub mid : ℕ
+  pub front : in_order from mid xs ≡ true
+  pub back : in_order mid to ys ≡ true
 
-cut_at : (from to : ℕ) (xs ys : List Text) → in_order from to (xs ++ ys) ≡ true → Cut from to xs ys
+pub cut_at : (from to : ℕ) (xs ys : List Text) → in_order from to (xs ++ ys) ≡ true → Cut from to xs ys
 cut_at from to [] ys is = record { mid = from; front = grind (arith, nat_tests); back = is }
 cut_at from to (x ∷ xs) ys is =
     let first = and_left (nat_le from x.span.from && nat_lt x.span.from x.span.to) (x.fits && in_order x.span.to to (xs ++ ys)) is in
@@ -462,3 +463,33 @@ pub told_function : (f : Function Slot Ty) (g : SlotFunction) → Arranges f g �
 told_function f g arranged text =
     let t = told_body arranged.is f.span.from f.span.to text.is in
     record { innermost = t.innermost; ordered = t.ordered }
+
+-- ---- the functions of a contract
+
+functions_told : (fs : List (Function Slot Ty)) (gs : List SlotFunction) → AllZip Arranges fs gs → (from to : ℕ) → in_order from to (map function_text fs) ≡ true → Told from to (all_pairs gs) (all_places fs)
+functions_told [] [] h from to is = told_none from to
+functions_told [] (g ∷ gs) h from to is = elim h [ ]
+functions_told (f ∷ fs) [] h from to is = elim h [ ]
+functions_told (f ∷ fs) (g ∷ gs) h from to is =
+    let fits = in_order f.span.from f.span.to (map text_of f.body) in
+    let more = in_order f.span.to to (map function_text fs) in
+    let first = and_left (nat_le from f.span.from && nat_lt f.span.from f.span.to) (fits && more) is in
+    let second = and_right (nat_le from f.span.from && nat_lt f.span.from f.span.to) (fits && more) is in
+    let low = leb-true from f.span.from (and_left (nat_le from f.span.from) (nat_lt f.span.from f.span.to) first) in
+    let some = ltb-true f.span.from f.span.to (and_right (nat_le from f.span.from) (nat_lt f.span.from f.span.to) first) in
+    let high = less_is f.span.to to (map function_text fs) (and_right fits more second) in
+    told_both (code_pairs g.body) (all_pairs gs) (body_places f.body) (all_places fs) (omega (arith, low, some)) high
+    (told_wider low (omega arith) (told_body h.0.is f.span.from f.span.to (and_left fits more second))) (functions_told fs gs h.1 f.span.to to (and_right fits more second))
+
+texts_of : (fs : List (Function Slot Ty)) (from to : ℕ) → in_order from to (map function_text fs) ≡ true → Every IsText fs
+texts_of [] from to is = tt
+texts_of (f ∷ fs) from to is =
+    let fits = in_order f.span.from f.span.to (map text_of f.body) in
+    let more = in_order f.span.to to (map function_text fs) in
+    let second = and_right (nat_le from f.span.from && nat_lt f.span.from f.span.to) (fits && more) is in
+    (record { is = and_left fits more second }, texts_of fs f.span.to to (and_right fits more second))
+
+pub told_contract : (contract : Contract Slot Ty) (lowered : List SlotFunction) → AllZip Arranges contract.functions lowered → IsTextOf contract → AreTold contract lowered
+told_contract contract lowered arranged text =
+    let t = functions_told contract.functions lowered arranged contract.span.from contract.span.to text.is in
+    record { innermost = t.innermost; ordered = t.ordered; texts = texts_of contract.functions contract.span.from contract.span.to text.is }

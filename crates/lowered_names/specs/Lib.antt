@@ -1,3 +1,3 @@
 pub mod Names
-pub mod Points
 pub mod Order
+pub mod Points

@@ -5,6 +5,7 @@ use Rattle.cash_base.specs.declared.place.Slot.{Slot}
 use Rattle.cash_base.specs.declared.place.Span.{Span}
 use Rattle.cash_tree.specs.declared.Ty.{Ty}
 use Rattle.cash_tree.specs.declared.Expr.{Expr}
+use Rattle.cash_tree.specs.declared.Contract.{Contract}
 use Rattle.cash_tree.specs.declared.Function.{Function}
 use Rattle.cash_tree.specs.declared.Stmt.{Stmt}
 use Rattle.cash_tree.specs.declared.StmtKind.{StmtKind}
@@ -101,6 +102,13 @@ text_at kind = fold-StmtKind Slot Ty (Span → Bool) Text kind_text stmt_text ki
 pub record IsText (f : Function Slot Ty) : Type 0 where
   pub is : in_order f.span.from f.span.to (map text_of f.body) ≡ true
 
+-- the functions of a contract stand in it, in order, and so do the statements of each
+abbrev pub function_text : Function Slot Ty → Text
+function_text f = record { span = f.span; fits = in_order f.span.from f.span.to (map text_of f.body) }
+
+pub record IsTextOf (contract : Contract Slot Ty) : Type 0 where
+  pub is : in_order contract.span.from contract.span.to (map function_text contract.functions) ≡ true
+
 -- ---- what is promised
 
 abbrev pub Every : {A : Type 0} → (A → Type 0) → List A → Type 0
@@ -129,3 +137,16 @@ AreOrdered (pair ∷ more) = Every (λ (later : Pair). pair.checking.from < late
 pub record IsTold (f : Function Slot Ty) (g : SlotFunction) : Type 0 where
   pub innermost : Every (IsInnermost (body_places f.body)) (code_pairs g.body)
   pub ordered : AreOrdered (code_pairs g.body)
+
+-- ... and those of all functions, one after the other, are those of the contract's statements
+abbrev pub all_pairs : List SlotFunction → List Pair
+all_pairs lowered = joined (map (λ (g : SlotFunction). code_pairs g.body) lowered)
+
+abbrev pub all_places : List (Function Slot Ty) → List Span
+all_places functions = joined (map (λ (f : Function Slot Ty). body_places f.body) functions)
+
+pub record AreTold (contract : Contract Slot Ty) (lowered : List SlotFunction) : Type 0 where
+  pub innermost : Every (IsInnermost (all_places contract.functions)) (all_pairs lowered)
+  pub ordered : AreOrdered (all_pairs lowered)
+  -- each function by itself
+  pub texts : Every IsText contract.functions

@@ -11,6 +11,7 @@ use Rattle.slot_code.specs.declared.slots.SlotKind.TheVariants.{If}
 use Rattle.slot_code.specs.Shape.{Place, then_shape, shapes_of, all_shapes, path_shape, closed, has_span, inside, with_seen, start}
 use Rattle.slot_liveness.specs.Live.{later, only_other, kept, hold}
 use Rattle.lowered_names.specs.Names.{Point, points}
+use Rattle.lowered_names.specs.Order.{Every}
 
 -- In a function with this body: behind these instructions' place in its text, the statement with a span begins where these slots
 -- are read later, and these are kept: the slots that are read later, those that the function never reads, and those that are held
@@ -52,3 +53,16 @@ pub record IsPointOf (points : List Point) (span : Span) (live keeps : List Slot
 pub record HasPoints (contract : Contract Slot Ty) (f : Function Slot Ty) (g : SlotFunction) : Type 0 where
   pub by : (span : Span) (reads keeps : List Slot) → Begins g.body g.body [] [] (start (g.ctors + g.params)) span reads keeps
       → IsPointOf (points contract f) span reads keeps
+
+-- points of statements with different spans
+abbrev pub IsApart : Point → Point → Type 0
+IsApart x y = x.statement ≡ y.statement → ⊥
+
+abbrev pub AreApart : List Point → Type 0
+AreApart [] = Unit {0}
+AreApart (x ∷ xs) = Every (IsApart x) xs × AreApart xs
+
+-- a function has one point for each span of its statements
+pub record HasOnePoint (contract : Contract Slot Ty) (f : Function Slot Ty) : Type 0 where
+  pub apart : AreApart (points contract f)
+  pub one : (x y : Point) → Among (points contract f) x → Among (points contract f) y → x.statement ≡ y.statement → x ≡ y

@@ -3,4 +3,6 @@
 
 pub mod laws;
 
-pub use laws::{spans_are_in_order, statements_begin_alike};
+pub use laws::{
+    contract_spans_are_in_order, spans_are_in_order, statements_are_apart, statements_begin_alike,
+};
