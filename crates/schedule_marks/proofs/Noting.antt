@@ -2,7 +2,7 @@
 use Rattle.std.proofs.Common.{◌≡◌, ℕ, suc, ◌+◌, ◌<◌, ◌≤◌, Bool, true, false, cond, not, List, [], ◌∷◌, ◌++◌, length, map, Option, Some, None, IsSome, refl, sym, ap, ◌∙◌, subst, arith, append_assoc, append-nil, length-append}
 use Rattle.std.specs.Prelude.{◌==◌, ◌||◌, ◌&&◌, filter, option_and_then}
 use Rattle.std.specs.List.{AllByRecursion}
-use Rattle.std.proofs.lemmas.Bool.{false≢true, and_parts, eqb-true}
+use Rattle.std.proofs.lemmas.Bool.{false≢true, and_parts, eqb-true, eq-eqb}
 use Rattle.std.proofs.lemmas.Option.{none-some}
 use Rattle.cash_base.specs.declared.place.Slot.{Slot}
 use Rattle.cash_base.specs.declared.place.Span.{Span}
@@ -98,7 +98,7 @@ is_itself c = and_same (c.from == c.from) (c.to == c.to) (eq_self c.from) (eq_se
     and_same false b h k = absurd (false≢true h)
 
     eq_self : (n : ℕ) → (n == n) ≡ true
-    eq_self n = grind (arith, nat_tests)
+    eq_self n = eq-eqb n n refl
 
 pub has_last : (c : Span) (seen : List Span) → has_span c (seen ++ c ∷ []) ≡ true
 has_last c seen = has_more c c seen ∙ ap (λ b. has_span c seen || b) (is_itself c) ∙ or_true (has_span c seen)
@@ -118,18 +118,15 @@ pub closed_at : (instr : SlotInstr) (p q : Place) → (shapes_of instr).inner p 
 closed_at instr p q h fresh =
     by (has_span instr.checking p.seen) fresh (sym (ap (λ (x : Shapes). x.inner p) (whole_stands instr)) ∙ h)
   where
-    abbrev e : Bool
-    e = (shapes_at instr.kind).is_end
-
     open_by : (a b : Bool) (r : Place) → option_and_then (shapes_at instr.kind).inner (only_if (a && b) r) ≡ Some q → a ≡ true
     open_by true b r k = refl
     open_by false b r k = absurd (none-some q k)
 
     by : (b : Bool) → b ≡ false
-        → option_and_then (shapes_at instr.kind).inner (cond b (Some p) (only_if (length p.operands == 0 && not e) (with_seen (p.seen ++ instr.checking ∷ []) p))) ≡ Some q
+        → option_and_then (shapes_at instr.kind).inner (cond b (Some p) (only_if (length p.operands == 0 && not (shapes_at instr.kind).is_end) (with_seen (p.seen ++ instr.checking ∷ []) p))) ≡ Some q
         → length p.operands ≡ 0
     by true n k = absurd (false≢true (sym n))
-    by false n k = eqb-true (length p.operands) 0 (open_by (length p.operands == 0) (not e) (with_seen (p.seen ++ instr.checking ∷ []) p) k)
+    by false n k = eqb-true (length p.operands) 0 (open_by (length p.operands == 0) (not (shapes_at instr.kind).is_end) (with_seen (p.seen ++ instr.checking ∷ []) p) k)
 
 module _ (f : SlotFunction) (start : List Slot) (instr : SlotInstr) (rest : List SlotInstr) (after held : List Slot) (old new : Low) (x : Stepped f.body instr rest after held old new) (points : Points f (instr ∷ rest) after held (place_of old)) (n : Noting f start old) where
   abbrev c : Span

@@ -265,7 +265,7 @@ module _ (world : World) (d c : Span) (p : Spot) (k : Operand) (one : p.operands
       by true e =
           let t = taken_of e in
           let is = ok_same (machine (map (value t.env) p.slots ++ []) (truth_of t.test ∷ m.conditions)) n
-              (sym (if_step world d c t.test (map (value t.env) p.slots ++ []) m.conditions e) ∙ ap (λ s. step world (opens d c) (machine s m.conditions)) (sym t.stack) ∙ ran_step) in
+          (sym (if_step world d c t.test (map (value t.env) p.slots ++ []) m.conditions e) ∙ ap (λ s. step world (opens d c) (machine s m.conditions)) (sym t.stack) ∙ ran_step) in
           (e, stands_at t.env n (truth_of t.test ∷ m.conditions) is)
 
   module _ (rows : List Spanned) (nested : IsNested rows) where
@@ -284,7 +284,7 @@ module _ (world : World) (d c : Span) (p : Spot) (k : Operand) (one : p.operands
         let w = midway world rows (flips d c ∷ []) (machine stack (true ∷ m.conditions)) n h in
         let kept : w.mid.conditions ≡ true ∷ m.conditions = rows_keep world rows 0 0 (machine stack (true ∷ m.conditions)) w.mid (nested 0) w.first in
         let last : step world (flips d c) (machine w.mid.stack (true ∷ m.conditions)) ≡ Ok n
-            = ap (λ cs. step world (flips d c) (machine w.mid.stack cs)) (sym kept) ∙ sym (then_ok world (step world (flips d c) w.mid)) ∙ w.second in
+        = ap (λ cs. step world (flips d c) (machine w.mid.stack cs)) (sym kept) ∙ sym (then_ok world (step world (flips d c) w.mid)) ∙ w.second in
         ap (λ k. is_live k.conditions) (sym (ok_same (machine w.mid.stack (false ∷ m.conditions)) n (sym (else_step world d c true w.mid.stack m.conditions) ∙ last)))
 
     pub else_comes : (n : Machine) → run_rows world (opens d c ∷ turn) m ≡ Ok n → is_live n.conditions ≡ true → (is_live m.conditions ≡ true) × Stands (spot [] p.slots) n
@@ -303,5 +303,5 @@ module _ (world : World) (d c : Span) (p : Spot) (k : Operand) (one : p.operands
         by true e =
             let t = taken_of e in
             let h = ap (λ r. r >>= run_rows world turn) (sym (if_step world d c t.test (map (value t.env) p.slots ++ []) m.conditions e))
-                ∙ ap (λ s. run_rows world (opens d c ∷ turn) (machine s m.conditions)) (sym t.stack) ∙ ran in
+            ∙ ap (λ s. run_rows world (opens d c ∷ turn) (machine s m.conditions)) (sym t.stack) ∙ ran in
             pick t (truth_of t.test) e h
