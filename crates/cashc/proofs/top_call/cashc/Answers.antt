@@ -12,7 +12,7 @@ returns-in_default-clause-stopped g c = λ e.
 
 pub returns-in-Err-Refused-clause-stopped : goal.returns-in-Err-Refused-clause-stopped
 returns-in-Err-Refused-clause-stopped g c = λ e.
-    let named : TopCall.command_of c.args.words.now ≡ Some (seen c.in-Some.command) = sym c.in-Some.ensures in
+    let named : TopCall.command_of c.args.words.now ≡ Some (seen c.in-Some.command) = sym c.in-Some.ensures.named in
     let cause = rw c.in-Err-Refused.field-0-is at c.in-Err-Refused.ensures.stopped in
     let told = told_for (g.S.Store.files c.args.store.now) c.args.words.now (seen c.in-Some.command) c.in-Err-Refused.status c.in-Err-Refused.text.items
     c.as_slice-in-Err-Refused.result.now named c.as_slice-in-Err-Refused.ensures.value cause in
@@ -20,7 +20,7 @@ returns-in-Err-Refused-clause-stopped g c = λ e.
 
 pub returns-in-Err-Unread-clause-unread : goal.returns-in-Err-Unread-clause-unread
 returns-in-Err-Unread-clause-unread g c = λ e.
-    let named : TopCall.command_of c.args.words.now ≡ Some (seen c.in-Some.command) = sym c.in-Some.ensures in
+    let named : TopCall.command_of c.args.words.now ≡ Some (seen c.in-Some.command) = sym c.in-Some.ensures.named in
     let cause = unread_for (g.S.Store.files c.args.store.now) c.args.words.now (seen c.in-Some.command) (g.S.Store.faults c.args.store.now) (g.S.Store.faults c.answer.new.store)
     named (rw c.in-Err-Unread.field-0-is at c.in-Err-Unread.ensures.stopped) in
     (cause, rw c.as_bytes-in-Err-Unread.ensures.value at c.fail.ensures.told, refl)
@@ -40,13 +40,13 @@ returns-in-Ok-clause-complete g c = λ command named can reads shows tells.
 
 pub returns-in-Err-Refused-clause-complete : goal.returns-in-Err-Refused-clause-complete
 returns-in-Err-Refused-clause-complete g c = λ command named can reads shows tells.
-    let again : TopCall.command_of c.args.words.now ≡ Some (seen c.in-Some.command) = sym c.in-Some.ensures in
+    let again : TopCall.command_of c.args.words.now ≡ Some (seen c.in-Some.command) = sym c.in-Some.ensures.named in
     let cause = rw c.in-Err-Refused.field-0-is at c.in-Err-Refused.ensures.stopped in
     never_told c.small_contracts_fit.ensures (g.S.Store.files c.args.store.now) c.args.words.now command (seen c.in-Some.command) c.in-Err-Refused.status c.in-Err-Refused.text.items
     c.write-in-Err-Refused.result named can again cause
 
 pub returns-in-Err-Unread-clause-complete : goal.returns-in-Err-Unread-clause-complete
 returns-in-Err-Unread-clause-complete g c = λ command named can reads shows tells.
-    let again : TopCall.command_of c.args.words.now ≡ Some (seen c.in-Some.command) = sym c.in-Some.ensures in
+    let again : TopCall.command_of c.args.words.now ≡ Some (seen c.in-Some.command) = sym c.in-Some.ensures.named in
     never_unread (g.S.Store.files c.args.store.now) c.args.words.now command (seen c.in-Some.command) (g.S.Store.faults c.args.store.now) (g.S.Store.faults c.answer.new.store)
     c.fail.result named can again reads (rw c.in-Err-Unread.field-0-is at c.in-Err-Unread.ensures.stopped)
