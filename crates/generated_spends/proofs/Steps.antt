@@ -1,9 +1,8 @@
 -- A statement by its choice, and what the first of several adds.
-use Rattle.std.proofs.Common.{◌≡◌, ℕ, zero, suc, ◌-◌, Bool, true, false, List, [], ◌∷◌, ◌++◌, map, Vec, Global, refl, ap, ◌∙◌, codes, append_assoc, arith}
+use Rattle.std.proofs.Common.{◌≡◌, ℕ, zero, suc, ◌-◌, false, List, [], ◌∷◌, ◌++◌, map, Vec, Global, refl, ap, ◌∙◌, codes, append_assoc, arith}
 use Rattle.std.proofs.lemmas.Bool.{cond-false}
 use Rattle.std.specs.Prelude.{◌==◌}
 use Rattle.std.specs.Fmt.{decimal}
-use Rattle.generated_spends.specs.Draws.{Drawn}
 use Rattle.generated_spends.specs.Generated.{numbered, piece, pieces, spend, spends}
 
 pub check_is : (choice number : ℕ) → (choice == 2) ≡ false → (choice == 3) ≡ false

@@ -1,4 +1,4 @@
-use Rattle.std.proofs.Common.{rules, sym, ap, ◌∙◌, map}
+use Rattle.std.proofs.Common.{rules}
 use Rattle.workload.proofs.Tries.{spend_cause_of}
 use Rattle.workload.proofs.trying.try_generated.Goals as goal
 
