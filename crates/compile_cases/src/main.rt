@@ -26,8 +26,7 @@ fn brief(alloc: Global, line: &str) -> Result<String> {
     let (x, rest) = line.split_once(' ').context("an argument is missing")?;
     let (y, source) = rest.split_once(' ').context("a source is missing")?;
     let (x, y) = (digits_of(x), digits_of(y));
-    let file =
-        format!(in alloc; "{{\"arguments\":[{{\"raw\":\"{x}\"}},{{\"raw\":\"{y}\"}}]}}")?;
+    let file = format!(in alloc; "{{\"arguments\":[{{\"raw\":\"{x}\"}},{{\"raw\":\"{y}\"}}]}}")?;
     told_briefly(alloc, file.as_str(), source)
 }
 

@@ -36,12 +36,7 @@ pub fn told_briefly(alloc: Global, file: &str, source: &str) -> Result<String> {
     }
 }
 
-fn placed(
-    alloc: Global,
-    source: &str,
-    compiled: &Compiled,
-    spend: &SpendFile,
-) -> Result<String>
+fn placed(alloc: Global, source: &str, compiled: &Compiled, spend: &SpendFile) -> Result<String>
     requires few { HasFewInputs compiled.now.program }
     requires room { HasRoom compiled.now.contract }
     requires short { length source.now ≤ 65536 }
@@ -59,7 +54,11 @@ fn unplaced(alloc: Global, compiled: &Compiled, spend: &SpendFile) -> Result<Str
 {
     let run = run_of(alloc, compiled, spend)?;
     let verdict = verdict_of(alloc, &compiled.program, spend)?;
-    let run = if run == SourceOutcome::Met { "met" } else { "failed" };
+    let run = if run == SourceOutcome::Met {
+        "met"
+    } else {
+        "failed"
+    };
     let verdict = if verdict.outcome == MachineOutcome::Accepted {
         "accepted"
     } else {
@@ -83,7 +82,12 @@ fn run_text(alloc: Global, source: &str, outcome: SourceOutcome) -> Result<Strin
 fn verdict_text(alloc: Global, source: &str, verdict: Verdict) -> Result<String>
     requires { length source.now ≤ 65536 }
 {
-    let MachineOutcome::Refused { script, at: _, cause } = verdict.outcome else {
+    let MachineOutcome::Refused {
+        script,
+        at: _,
+        cause,
+    } = verdict.outcome
+    else {
         return Ok(String::from_str(alloc, "accepted")?);
     };
     let cause = cause_text(alloc, cause)?;
