@@ -36,7 +36,7 @@ opened_place opcode instr layout scope outer from to x seen h =
     ∙ ap (λ (l : Vec Mark). place [] scope outer (statements_of l.items)) x.marks ∙ ap (place [] scope outer) h
 
 module _ (f : SlotFunction) (start : List Slot) (instr : SlotInstr) (old marked : Low) (m : MarksNow instr.checking old marked) (has : has_span instr.checking (statements_of old.marks.items) ≡ true) (k : Operand) (one : old.emitter.place.operands ≡ k ∷ []) (scope outer : List Slot) (opened : Low) (x : Opened 0x63 instr old.emitter.place.slots scope outer marked opened) (n : Noting f start old) where
-  in_opened : opened.emitter.code.items ≡ old.emitter.code.items ++ opens instr.doing instr.checking ∷ []
+  pub in_opened : opened.emitter.code.items ≡ old.emitter.code.items ++ opens instr.doing instr.checking ∷ []
   in_opened = x.code ∙ ap (λ (e : Emitter). e.code.items ++ opens instr.doing instr.checking ∷ []) m.emitter
 
   pub marks_opened : opened.marks.items ≡ old.marks.items

@@ -90,7 +90,7 @@ ends_noted f start c old new deed marks x has n =
 
 -- ---- a statement begins
 
-is_itself : (c : Span) → is_span c c ≡ true
+pub is_itself : (c : Span) → is_span c c ≡ true
 is_itself c = and_same (c.from == c.from) (c.to == c.to) (eq_self c.from) (eq_self c.to)
   where
     and_same : (a b : Bool) → a ≡ true → b ≡ true → (a && b) ≡ true

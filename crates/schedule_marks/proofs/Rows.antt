@@ -140,10 +140,10 @@ begins_by d c a (row ∷ rows) b e lt h =
     record { row = row; more = rows; is = refl; has = (and_parts (is_span d row.doing) (is_span c row.checking) l.0).1 }
 
 pub before_here : (c : Span) (rows : List Spanned) → Begins c rows → before c rows ≡ []
-before_here c rows b = ap (before c) b.is ∙ ap (λ t. cond t [] (b.row ∷ before c b.more)) b.has
+before_here c xs b = ap (before c) b.is ∙ ap (λ t. cond t [] (b.row ∷ before c b.more)) b.has
 
 pub uses_here : (c : Span) (rows : List Spanned) → Begins c rows → uses c rows ≡ true
-uses_here c rows b = ap (uses c) b.is ∙ ap (λ t. t || uses c b.more) b.has
+uses_here c xs b = ap (uses c) b.is ∙ ap (λ t. t || uses c b.more) b.has
 
 -- ---- runs of two codes
 

@@ -14,7 +14,7 @@ use Rattle.slot_code.specs.declared.slots.SlotInstr.{SlotInstr}
 use Rattle.slot_code.specs.declared.slots.SlotKind.TheVariants as kinds
 use Rattle.slot_code.specs.Shape.{Place, Shape, Shapes, Operand, shapes_of, shapes_at, all_shapes, begins, only_if, then_shape, has_span, inside, with_seen, ends_rightly, is_over, path_shape, closed, first_slots, most_slots, IsWellFormed, start as first_place}
 use Rattle.slot_code.specs.Meaning.{act_of}
-use Rattle.slot_code.proofs.Steps.{whole_stands}
+use Rattle.slot_code.proofs.Steps.{whole_stands, require_stands}
 use Rattle.slot_liveness.specs.Live.{Slots, later, hold, only_other, read_in}
 use Rattle.row_runs.specs.Rows.{Machine, machine, run_rows, IsNested}
 use Rattle.row_runs.proofs.Turns.{nested_append}
@@ -35,8 +35,13 @@ use Rattle.stack_schedule.proofs.Forks.{fork_yes, operand}
 use Rattle.stack_schedule.proofs.Lasts.{check_operand}
 use Rattle.schedule_marks.specs.Marks.{IsPoint, IsRight, AreRight, start_at}
 use Rattle.schedule_marks.proofs.Rows.{Arrives, Stands, arrives_more, each_map, ok_same}
+use Rattle.stack_schedule.proofs.Inverse.{over_ends}
+use Rattle.schedule_marks.specs.First.{Text, text, Says, goes_on, says, all_say, beside, says_of, first_text, IsOrdered, first_with, IsFirst, AreFirst}
+use Rattle.schedule_marks.proofs.Passed.{Passed, Known, AllPassed, known_more}
+use Rattle.schedule_marks.proofs.Texts.{choice_is, plain_says}
+use Rattle.schedule_marks.proofs.Going.{Going, Went, Ended, step_going, end_going, adds_passed, ends_say, opened_going, known_yes, known_no, turned_going, closed_passed}
 use Rattle.schedule_marks.proofs.Noting.{Noted, Noting, Grew, Points, noted_row, noted_as, adds_noted, ends_noted, marks_of, marks_same, closed_at, step_noting, step_has, step_grew}
-use Rattle.schedule_marks.proofs.Choices.{opened_place, opened_noting, opened_has, marks_opened, turned_noting, turned_has, marks_turned, turned_is}
+use Rattle.schedule_marks.proofs.Choices.{opened_place, opened_noting, opened_has, in_opened, marks_opened, turned_noting, turned_has, marks_turned, turned_is}
 
 -- ---- what an instruction or a block makes of the marks
 
@@ -45,22 +50,33 @@ record OneNoted (f : SlotFunction) (start : List Slot) (instr : SlotInstr) (old 
   grew : Grew old new
   has : has_span instr.checking (statements_of new.marks.items) ≡ true
   noting : Noting f start new
+  first : (t : Text) → Going start t old → Went start t (says_of instr t) new × ((says_of instr t).ordered ≡ true → has_span instr.checking (says_of instr t).known ≡ true)
 
 record BlockNoted (f : SlotFunction) (start : List Slot) (instrs : List SlotInstr) (old new : Low) : Type 0 where
   place_is : all_shapes (map shapes_of instrs) (place_of old) ≡ Some (place_of new)
   grew : Grew old new
   noting : Noting f start new
+  first : (t : Text) → Going start t old → Went start t (all_say (map says_of instrs) t) new
 
-record PathNoted (f : SlotFunction) (start : List Slot) (old new : Low) : Type 0 where
+record PathNoted (f : SlotFunction) (start : List Slot) (needs : Text → Type 0) (to : Says) (old new : Low) : Type 0 where
   grew : Grew old new
   noted : Noted f start new.emitter.code.items new.marks.items
+  first : (t : Text) → needs t → Going start t old → Ended start t (to t) new
+
+-- an instruction needs nothing more, and an empty block that the statement around it has begun
+abbrev nothing_more : Text → Type 0
+nothing_more t = Unit {0}
+
+abbrev around_begun : Span → List SlotInstr → Text → Type 0
+around_begun around instrs t = length instrs ≡ 0 → t.ordered ≡ true → has_span around t.known ≡ true
+
 
 abbrev Claim : SlotFunction → List Slot → Part → List Slot → List Slot → Low → Low → Type 0
 Claim f start (One instr rest) after held old new = Points f (instr ∷ rest) after held (place_of old) → Noting f start old → OneNoted f start instr old new
 Claim f start (Block instrs) after held old new = Points f instrs after held (place_of old) → Noting f start old → BlockNoted f start instrs old new
-Claim f start (Last instr rest) after held old new = Points f (instr ∷ rest) after held (place_of old) → Noting f start old → PathNoted f start old new
+Claim f start (Last instr rest) after held old new = Points f (instr ∷ rest) after held (place_of old) → Noting f start old → PathNoted f start nothing_more (says_of instr) old new
 Claim f start (Path around instrs) after held old new = Points f instrs after held (place_of old)
-    → (length instrs ≡ 0 → has_span around (statements_of old.marks.items) ≡ true) → Noting f start old → PathNoted f start old new
+    → (length instrs ≡ 0 → has_span around (statements_of old.marks.items) ≡ true) → Noting f start old → PathNoted f start (around_begun around instrs) (all_say (map says_of instrs)) old new
 
 -- ---- rows in turn
 
@@ -132,6 +148,17 @@ choice_rows : (front t d new a b : List Spanned) (i j : Span) → t ≡ front ++
     → new ≡ front ++ choice a b i j
 choice_rows front t d new a b i j x y z = rw (z, y, x) (simp append_assoc)
 
+after_opens : (front opened code a : List Spanned) (i j : Span) → opened ≡ front ++ opens i j ∷ [] → code ≡ opened ++ a → code ≡ front ++ opens i j ∷ a
+after_opens front opened code a i j x y = rw (y, x) (simp append_assoc)
+
+after_flips : (front turned code a b : List Spanned) (i j : Span) → turned ≡ front ++ opens i j ∷ (a ++ flips i j ∷ []) → code ≡ turned ++ b
+    → code ≡ front ++ opens i j ∷ (a ++ flips i j ∷ b)
+after_flips front turned code a b i j x y = rw (y, x) (simp append_assoc)
+
+after_moves : (front mid code a b moves : List Spanned) (i j : Span) → mid ≡ front ++ opens i j ∷ (a ++ flips i j ∷ b) → code ≡ mid ++ moves
+    → code ≡ front ++ opens i j ∷ (a ++ flips i j ∷ (b ++ moves))
+after_moves front mid code a b moves i j x y = rw (y, x) (simp append_assoc)
+
 module _ (f : SlotFunction) (start : List Slot) (instr : SlotInstr) (rest ys ns : List SlotInstr) (after held : List Slot) (old marked opened : Low) (e : instr.kind ≡ kinds.If ys ns) (m : MarksNow instr.checking old marked) (k : Operand) (one_marked : marked.emitter.place.operands ≡ k ∷ []) (fresh_none : has_span instr.checking (statements_of old.marks.items) ≡ false → length old.emitter.place.operands ≡ 0) where
   abbrev c : Span
   c = instr.checking
@@ -196,6 +223,34 @@ module _ (f : SlotFunction) (start : List Slot) (instr : SlotInstr) (rest ys ns 
               (noted_row f start settled.code.items new.emitter.code.items (control 0x68 instr) no_end.marks.items code has_z noted_s);
           arrives = arrives_more start old.emitter new.emitter does.lowers.did does.lowers.emits n.arrives;
         };
+        first = λ t g.
+            let d = instr.doing in
+            let t1 = goes_on c t in
+            let u = all_say (map says_of ys) t1 in
+            let w1 = y.first t1 (opened_going start d c old t g opened (in_opened f start instr old marked m has k one old.scope old.scope opened in_yes n) (marks_opened f start instr old marked m has k one old.scope old.scope opened in_yes n)) in
+            let in_yes_end = after_opens old.emitter.code.items opened.emitter.code.items yes_end.emitter.code.items y.grew.rows d c (in_opened f start instr old marked m has k one old.scope old.scope opened in_yes n) y.grew.grown in
+            let in_mid = after_opens old.emitter.code.items opened.emitter.code.items joined.emitter.code.items rows d c (in_opened f start instr old marked m has k one old.scope old.scope opened in_yes n) in_joined in
+            let whole = turned_is f start instr old marked m has k one old.scope old.scope opened in_yes n rows nested joined in_joined noted_j has_j old.scope turned in_no in
+            let w2 = z.first (beside t u) (turned_going start d c old t g rows joined.emitter.code.items turned nested in_mid in_no.code whole u
+                (w1.going.seen_is ∙ ap statements_of (sym (items_of turned.marks joined.marks in_no.marks ∙ items_of joined.marks yes_end.marks same))) w1.back
+                (λ o. adds_passed start c yes_end.emitter joined.emitter joins (w1.going.passed o) (known_yes start d c old t g y.grew.rows yes_end.emitter.code.items y.grew.nested in_yes_end (w1.back o)))) in
+            let in_no_end = after_flips old.emitter.code.items turned.emitter.code.items no_end.emitter.code.items rows z.grew.rows d c whole z.grew.grown in
+            let in_settled = after_moves old.emitter.code.items no_end.emitter.code.items settled.code.items rows z.grew.rows settles.emits.rows d c in_no_end settles.emits.grown in
+            let back = λ (o : (all_say (map says_of ns) (beside t u)).ordered ≡ true). w1.back (w2.back o) in
+            let is = ap (λ s. s t) (sym (choice_is instr ys ns e)) in
+            subst (λ v. Went start t v new × (v.ordered ≡ true → has_span c v.known ≡ true)) is (record {
+              going = record {
+                seen_is = w2.going.seen_is ∙ ap statements_of (sym (items_of new.marks no_end.marks marks));
+                passed = λ o.
+                    closed_passed start d c old t g rows (z.grew.rows ++ settles.emits.rows) settled.code.items new.emitter.code.items nested
+                    (nested_append z.grew.rows settles.emits.rows z.grew.nested settles.emits.follows.nested) in_settled code (back o)
+                    (adds_passed start c no_end.emitter settled settles (w2.going.passed o) (known_no start d c old t g rows z.grew.rows no_end.emitter.code.items nested z.grew.nested in_no_end (back o)));
+                known = λ o x h.
+                    subst (λ l. Known start l x) (sym does.lowers.emits.grown)
+                    (known_more start old.emitter.code.items does.lowers.emits.rows x does.lowers.emits.follows.nested (g.known (and_parts t.ordered (has_span c t.known) (back o)).0 x h));
+              };
+              back = λ o. (and_parts t.ordered (has_span c t.known) (back o)).0;
+            }, λ o. (and_parts t.ordered (has_span c t.known) (back o)).1);
       }
 
   fork_noted : (yes_end turned no_end new : Low) → IsSome (path_of ys (place_of opened))
@@ -232,6 +287,24 @@ module _ (f : SlotFunction) (start : List Slot) (instr : SlotInstr) (rest ys ns 
         };
         noted = noted_as f start new.emitter.code.items no_end.marks.items new.marks.items (items_of new.marks no_end.marks marks)
             (noted_row f start no_end.emitter.code.items new.emitter.code.items (control 0x68 instr) no_end.marks.items code has_z z.noted);
+        first = λ t needed g.
+            let d = instr.doing in
+            let t1 = goes_on c t in
+            let u = all_say (map says_of ys) t1 in
+            let w1 = y.first t1 (λ none o. (and_parts t.ordered (has_span c t.known) o).1)
+                (opened_going start d c old t g opened (in_opened f start instr old marked m has k one old.scope [] opened in_yes n) (marks_opened f start instr old marked m has k one old.scope [] opened in_yes n)) in
+            let in_yes_end = after_opens old.emitter.code.items opened.emitter.code.items yes_end.emitter.code.items y.grew.rows d c (in_opened f start instr old marked m has k one old.scope [] opened in_yes n) y.grew.grown in
+            let is_turned = turned_is f start instr old marked m has k one old.scope [] opened in_yes n y.grew.rows y.grew.nested yes_end y.grew.grown y.noted has_y [] turned in_no in
+            let w2 = z.first (beside t u) (λ none o. (and_parts t.ordered (has_span c t.known) (w1.back o)).1)
+                (turned_going start d c old t g y.grew.rows yes_end.emitter.code.items turned y.grew.nested in_yes_end in_no.code is_turned u
+                (w1.seen_is ∙ ap statements_of (sym (items_of turned.marks yes_end.marks in_no.marks))) w1.back w1.passed) in
+            let in_no_end = after_flips old.emitter.code.items turned.emitter.code.items no_end.emitter.code.items y.grew.rows z.grew.rows d c is_turned z.grew.grown in
+            let back = λ (o : (all_say (map says_of ns) (beside t u)).ordered ≡ true). w1.back (w2.back o) in
+            subst (λ v. Ended start t v new) (ap (λ s. s t) (sym (choice_is instr ys ns e))) (record {
+              seen_is = w2.seen_is ∙ ap statements_of (sym (items_of new.marks no_end.marks marks));
+              passed = λ o. closed_passed start d c old t g y.grew.rows z.grew.rows no_end.emitter.code.items new.emitter.code.items y.grew.nested z.grew.nested in_no_end code (back o) (w2.passed o);
+              back = λ o. (and_parts t.ordered (has_span c t.known) (back o)).0;
+            });
       }
     where
       found : (o : Option Place) → IsSome o → SeenAt o (statements_of yes_end.marks.items) → (q : Place) × (o ≡ Some q) × (q.seen ≡ statements_of yes_end.marks.items)
@@ -277,6 +350,21 @@ check_noted f start instr rest after held old marked new e may m ends same point
     let has_m = has_as marked.marks.items old.marks.items c (marks_same c old marked m has) has in record {
       grew = grew_then old marked new (grew_marked c old marked m has) (grew_end c marked new (check_deed instr.doing c) ends same);
       noted = end_noted f start c marked new (check_deed instr.doing c) ends same has_m (marked_noted f start c old marked m has n.noted);
+      first = λ t needed g.
+          let marks = marks_same c old marked m has in
+          let w : Went start t (goes_on c t) marked = record {
+            going = record {
+              seen_is = g.seen_is ∙ ap statements_of (sym marks);
+              passed = λ o. subst (λ (x : Emitter). AllPassed start x.code.items) (sym m.emitter) (g.passed (and_parts t.ordered (has_span c t.known) o).0);
+              known = λ o x h. subst (λ (y : Emitter). Known start y.code.items x) (sym m.emitter) (g.known (and_parts t.ordered (has_span c t.known) o).0 x h);
+            };
+            back = λ o. (and_parts t.ordered (has_span c t.known) o).0;
+          } in
+          let is : says_of instr t ≡ goes_on c t
+              = ap (λ s. s t) ((plain_says instr (no_choice instr e)).0 (ap (λ k. (shapes_at k).is_end) e ∙ ap (λ (x : Shapes). x.is_end) require_stands))
+              ∙ ap (λ b. cond b (goes_on c t) (text (t.seen ++ c ∷ []) (c ∷ t.known) t.ordered)) (ap (has_span c) g.seen_is ∙ has) in
+          subst (λ v. Ended start t v new) (sym is)
+          (end_going start c marked new (check_deed instr.doing c) ends same t (goes_on c t) w (λ o. (and_parts t.ordered (has_span c t.known) o).1));
     }
 
 none_over : (rest : List SlotInstr) → length rest ≡ 0 → is_over (map shapes_of rest) ≡ true
@@ -291,23 +379,31 @@ claims f start (built.step instr rest after held old new x) = λ points n. recor
   grew = step_grew f start instr rest after held old new x points n;
   has = step_has f start instr rest after held old new x points n;
   noting = step_noting f start instr rest after held old new x points n;
+  first = λ t g. step_going start f.body instr rest after held old new x n.noted.unused t g;
 }
 claims f start (built.choice instr rest ys ns after held old marked opened yes_end joined turned no_end new settled e ready does m in_yes yes_built joins same in_no no_built settles code marks) =
     let k = if_operand instr ys ns (later rest after) held (λ s. not (read_in f.body s)) old marked (marks_of instr.checking old marked m) e ready in
     choice_noted f start instr rest ys ns after held old marked opened e m k.0 k.1 (inner_well instr (place_of old) ready.well)
     yes_end joined turned no_end new settled does in_yes (claims f start yes_built) joins same in_no (claims f start no_built) settles code marks
-claims f start (built.none after held low) = λ points n. record { place_is = refl; grew = grew_none low; noting = n }
+claims f start (built.none after held low) = λ points n. record { place_is = refl; grew = grew_none low; noting = n; first = λ t g. record { going = g; back = λ o. o } }
 claims f start (built.more instr rest after held old mid new b c) = λ points n.
     let x = claims f start b points n in
     let y = claims f start c (λ span names pt. points span names (IsPoint.behind instr rest after held (place_of old) (place_of mid) span names x.place_is pt)) x.noting in record {
       place_is = ap (option_and_then (all_shapes (map shapes_of rest))) x.place_is ∙ y.place_is;
       grew = grew_then old mid new x.grew y.grew;
       noting = y.noting;
+      first = λ t g.
+          let a = (x.first t g).0 in
+          let b = y.first (says_of instr t) a.going in
+          record { going = b.going; back = λ o. a.back (b.back o) };
     }
 claims f start (built.check instr rest after held old marked new e may m ends same) = check_noted f start instr rest after held old marked new e may m ends same
 claims f start (built.finish instr rest after held old mid new x ends same) = λ points n. record {
   grew = grew_then old mid new (step_grew f start instr rest after held old mid x points n) (grew_end instr.checking mid new nothing ends same);
   noted = end_noted f start instr.checking mid new nothing ends same (step_has f start instr rest after held old mid x points n) (step_noting f start instr rest after held old mid x points n).noted;
+  first = λ t needed g.
+      let a = step_going start f.body instr rest after held old mid x n.noted.unused t g in
+      end_going start instr.checking mid new nothing ends same t (says_of instr t) a.0 a.1;
 }
 claims f start (built.fork instr rest ys ns after held old marked opened yes_end turned no_end new e may m in_yes yes_built seen in_no no_built code marks) =
     let never = λ (s : Slot). not (read_in f.body s) in
@@ -323,13 +419,29 @@ claims f start (built.fork instr rest ys ns after held old marked opened yes_end
     fork_noted f start instr rest ys ns after held old marked opened e m k.0 k.1 (last_well instr (place_of old) may.ready.well)
     yes_end turned no_end new well in_yes (claims f start yes_built) seen in_no (claims f start no_built) code marks
 claims f start (built.missing around after held old new ends same) = λ points begun n.
-    record { grew = grew_end around old new nothing ends same; noted = end_noted f start around old new nothing ends same (begun refl) n.noted }
+    record { grew = grew_end around old new nothing ends same; noted = end_noted f start around old new nothing ends same (begun refl) n.noted; first = λ t needed g. end_going start around old new nothing ends same t t (record { going = g; back = λ o. o }) (needed refl) }
 claims f start (built.further around instr rest after held old mid new over b c) = λ points begun n.
     let x = claims f start b points n in
     let y = claims f start c (λ span names pt. points span names (IsPoint.behind instr rest after held (place_of old) (place_of mid) span names x.place_is pt))
     (λ none. absurd (false≢true (sym over ∙ none_over rest none))) x.noting in
-    record { grew = grew_then old mid new x.grew y.grew; noted = y.noted }
-claims f start (built.ended around instr rest after held old new over b) = λ points begun n. claims f start b points n
+    record {
+      grew = grew_then old mid new x.grew y.grew;
+      noted = y.noted;
+      first = λ t needed g.
+          let a = (x.first t g).0 in
+          let b = y.first (says_of instr t) (λ none o. absurd (false≢true (sym over ∙ none_over rest none))) a.going in
+          record { seen_is = b.seen_is; passed = b.passed; back = λ o. a.back (b.back o) };
+    }
+claims f start (built.ended around instr rest after held old new over b) = λ points begun n.
+    let x = claims f start b points n in
+    record {
+      grew = x.grew;
+      noted = x.noted;
+      first = λ t needed g.
+          let a = x.first t tt g in
+          let ends = ends_say rest (over_ends rest over) (says_of instr t) in
+          record { seen_is = ends.0 ∙ a.seen_is; passed = λ o. a.passed (ends.1 o); back = λ o. a.back (ends.1 o) };
+    }
 
 -- ---- a function
 
