@@ -86,31 +86,36 @@ module _ (start : List Slot) (body : List SlotInstr) (instr : SlotInstr) (rest :
   Goes u = Went start t u new × (u.ordered ≡ true → has_span c u.known ≡ true)
 
   continued : has_span c (statements_of old.marks.items) ≡ true → Goes (goes_on c t)
-  continued has = (record {
-    going = record {
-      seen_is = g.seen_is ∙ ap statements_of (sym (marks_at true has));
-      passed = λ o.
-          let p = and_parts t.ordered (has_span c t.known) o in
-          passed_as start (a ++ rows) new.emitter.code.items x.steps.tells.grown
-          (passed_rows start a rows (doing_of instr) c x.steps.tells.told nested (g.passed p.0) (g.known p.0 c p.1));
-      known = λ o d h.
-          let p = and_parts t.ordered (has_span c t.known) o in
-          subst (λ l. Known start l d) (sym x.steps.tells.grown) (known_more start a rows d nested (g.known p.0 d h));
-    };
-    back = λ o. (and_parts t.ordered (has_span c t.known) o).0;
-  }, λ o. (and_parts t.ordered (has_span c t.known) o).1)
+  continued has = (
+    record {
+      going = record {
+        seen_is = g.seen_is ∙ ap statements_of (sym (marks_at true has));
+        passed = λ o.
+            let p = and_parts t.ordered (has_span c t.known) o in
+            passed_as start (a ++ rows) new.emitter.code.items x.steps.tells.grown
+            (passed_rows start a rows (doing_of instr) c x.steps.tells.told nested (g.passed p.0) (g.known p.0 c p.1));
+        known = λ o d h.
+            let p = and_parts t.ordered (has_span c t.known) o in
+            subst (λ l. Known start l d) (sym x.steps.tells.grown) (known_more start a rows d nested (g.known p.0 d h));
+      };
+      back = λ o. (and_parts t.ordered (has_span c t.known) o).0;
+    },
+    λ o. (and_parts t.ordered (has_span c t.known) o).1,
+  )
 
   begun : has_span c (statements_of old.marks.items) ≡ false → Goes (text (t.seen ++ c ∷ []) (c ∷ t.known) t.ordered)
   begun fresh =
-      let first = begins_by (doing_of instr) c a rows new.emitter.code.items x.steps.tells.grown (x.begins fresh) x.steps.tells.told in
-      (record {
-        going = record {
-          seen_is = ap (λ l. l ++ c ∷ []) g.seen_is ∙ sym (statements_append old.marks.items (mark ∷ [])) ∙ ap statements_of (sym (marks_at false fresh));
-          passed = λ o. passed_as start (a ++ rows) new.emitter.code.items x.steps.tells.grown (passed_first start a rows (doing_of instr) c x.steps.tells.told nested (unused c fresh) first (g.passed o));
-          known = λ o d h. subst (λ l. Known start l d) (sym x.steps.tells.grown) (by_span o d (is_span d c) refl h first);
-        };
-        back = λ o. o;
-      }, λ o. ap (λ b. b || has_span c t.known) (is_itself c))
+      let first = begins_by (doing_of instr) c a rows new.emitter.code.items x.steps.tells.grown (x.begins fresh) x.steps.tells.told in (
+        record {
+          going = record {
+            seen_is = ap (λ l. l ++ c ∷ []) g.seen_is ∙ sym (statements_append old.marks.items (mark ∷ [])) ∙ ap statements_of (sym (marks_at false fresh));
+            passed = λ o. passed_as start (a ++ rows) new.emitter.code.items x.steps.tells.grown (passed_first start a rows (doing_of instr) c x.steps.tells.told nested (unused c fresh) first (g.passed o));
+            known = λ o d h. subst (λ l. Known start l d) (sym x.steps.tells.grown) (by_span o d (is_span d c) refl h first);
+          };
+          back = λ o. o;
+        },
+        λ o. ap (λ b. b || has_span c t.known) (is_itself c),
+      )
     where
       by_span : t.ordered ≡ true → (d : Span) (b : Bool) → is_span d c ≡ b → (b || has_span d t.known) ≡ true → Begins c rows → Known start (a ++ rows) d
       by_span o d true e h first = subst (Known start (a ++ rows)) (same_span d c e) (known_first start a rows (doing_of instr) c x.steps.tells.told nested (unused c fresh) first)
@@ -152,7 +157,7 @@ pub ends_say : (rest : List SlotInstr) → AllEnds rest → (w : Text)
 ends_say [] over w = (refl, λ o. o)
 ends_say (x ∷ rest) over w =
     let is : says_of x ≡ goes_on x.checking = (plain_says x (λ a b e. other over.0.0 a b (sym over.0.1 ∙ e))).1
-        (ap (λ k. (shapes_at k).is_end) over.0.1 ∙ ap (λ (s : Shapes). s.is_end) (end_of_stands over.0.0)) in
+    (ap (λ k. (shapes_at k).is_end) over.0.1 ∙ ap (λ (s : Shapes). s.is_end) (end_of_stands over.0.0)) in
     let more = ends_say rest over.1 (says_of x w) in
     let at = ap (λ s. s w) is in
     (more.0 ∙ ap (λ (u : Text). u.seen) at, λ o. (and_parts w.ordered (has_span x.checking w.known) (sym (ap (λ (u : Text). u.ordered) at) ∙ more.1 o)).0)

@@ -114,7 +114,7 @@ plain_says instr other =
     let is = roll-out-SlotKind instr.kind in
     let h = layer_says (out-SlotKind instr.kind) instr.checking (λ a b e. other a b (sym is ∙ e)) in
     let k : PlainSays (says_at instr.kind instr.checking) instr.checking (shapes_at instr.kind).is_end
-        = subst (λ k. PlainSays (says_at k instr.checking) instr.checking (shapes_at k).is_end) is h in
+    = subst (λ k. PlainSays (says_at k instr.checking) instr.checking (shapes_at k).is_end) is h in
     (λ e. whole_says instr ∙ k.0 e, λ e. whole_says instr ∙ k.1 e)
 
 -- an end of a name stands in a statement that has begun

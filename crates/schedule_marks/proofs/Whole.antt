@@ -70,7 +70,6 @@ nothing_more t = Unit {0}
 abbrev around_begun : Span → List SlotInstr → Text → Type 0
 around_begun around instrs t = length instrs ≡ 0 → t.ordered ≡ true → has_span around t.known ≡ true
 
-
 abbrev Claim : SlotFunction → List Slot → Part → List Slot → List Slot → Low → Low → Type 0
 Claim f start (One instr rest) after held old new = Points f (instr ∷ rest) after held (place_of old) → Noting f start old → OneNoted f start instr old new
 Claim f start (Block instrs) after held old new = Points f instrs after held (place_of old) → Noting f start old → BlockNoted f start instrs old new
@@ -232,25 +231,28 @@ module _ (f : SlotFunction) (start : List Slot) (instr : SlotInstr) (rest ys ns 
             let in_mid = after_opens old.emitter.code.items opened.emitter.code.items joined.emitter.code.items rows d c (in_opened f start instr old marked m has k one old.scope old.scope opened in_yes n) in_joined in
             let whole = turned_is f start instr old marked m has k one old.scope old.scope opened in_yes n rows nested joined in_joined noted_j has_j old.scope turned in_no in
             let w2 = z.first (beside t u) (turned_going start d c old t g rows joined.emitter.code.items turned nested in_mid in_no.code whole u
-                (w1.going.seen_is ∙ ap statements_of (sym (items_of turned.marks joined.marks in_no.marks ∙ items_of joined.marks yes_end.marks same))) w1.back
-                (λ o. adds_passed start c yes_end.emitter joined.emitter joins (w1.going.passed o) (known_yes start d c old t g y.grew.rows yes_end.emitter.code.items y.grew.nested in_yes_end (w1.back o)))) in
+            (w1.going.seen_is ∙ ap statements_of (sym (items_of turned.marks joined.marks in_no.marks ∙ items_of joined.marks yes_end.marks same))) w1.back
+            (λ o. adds_passed start c yes_end.emitter joined.emitter joins (w1.going.passed o) (known_yes start d c old t g y.grew.rows yes_end.emitter.code.items y.grew.nested in_yes_end (w1.back o)))) in
             let in_no_end = after_flips old.emitter.code.items turned.emitter.code.items no_end.emitter.code.items rows z.grew.rows d c whole z.grew.grown in
             let in_settled = after_moves old.emitter.code.items no_end.emitter.code.items settled.code.items rows z.grew.rows settles.emits.rows d c in_no_end settles.emits.grown in
             let back = λ (o : (all_say (map says_of ns) (beside t u)).ordered ≡ true). w1.back (w2.back o) in
             let is = ap (λ s. s t) (sym (choice_is instr ys ns e)) in
-            subst (λ v. Went start t v new × (v.ordered ≡ true → has_span c v.known ≡ true)) is (record {
-              going = record {
-                seen_is = w2.going.seen_is ∙ ap statements_of (sym (items_of new.marks no_end.marks marks));
-                passed = λ o.
-                    closed_passed start d c old t g rows (z.grew.rows ++ settles.emits.rows) settled.code.items new.emitter.code.items nested
-                    (nested_append z.grew.rows settles.emits.rows z.grew.nested settles.emits.follows.nested) in_settled code (back o)
-                    (adds_passed start c no_end.emitter settled settles (w2.going.passed o) (known_no start d c old t g rows z.grew.rows no_end.emitter.code.items nested z.grew.nested in_no_end (back o)));
-                known = λ o x h.
-                    subst (λ l. Known start l x) (sym does.lowers.emits.grown)
-                    (known_more start old.emitter.code.items does.lowers.emits.rows x does.lowers.emits.follows.nested (g.known (and_parts t.ordered (has_span c t.known) (back o)).0 x h));
-              };
-              back = λ o. (and_parts t.ordered (has_span c t.known) (back o)).0;
-            }, λ o. (and_parts t.ordered (has_span c t.known) (back o)).1);
+            subst (λ v. Went start t v new × (v.ordered ≡ true → has_span c v.known ≡ true)) is (
+              record {
+                going = record {
+                  seen_is = w2.going.seen_is ∙ ap statements_of (sym (items_of new.marks no_end.marks marks));
+                  passed = λ o.
+                      closed_passed start d c old t g rows (z.grew.rows ++ settles.emits.rows) settled.code.items new.emitter.code.items nested
+                      (nested_append z.grew.rows settles.emits.rows z.grew.nested settles.emits.follows.nested) in_settled code (back o)
+                      (adds_passed start c no_end.emitter settled settles (w2.going.passed o) (known_no start d c old t g rows z.grew.rows no_end.emitter.code.items nested z.grew.nested in_no_end (back o)));
+                  known = λ o x h.
+                      subst (λ l. Known start l x) (sym does.lowers.emits.grown)
+                      (known_more start old.emitter.code.items does.lowers.emits.rows x does.lowers.emits.follows.nested (g.known (and_parts t.ordered (has_span c t.known) (back o)).0 x h));
+                };
+                back = λ o. (and_parts t.ordered (has_span c t.known) (back o)).0;
+              },
+              λ o. (and_parts t.ordered (has_span c t.known) (back o)).1,
+            );
       }
 
   fork_noted : (yes_end turned no_end new : Low) → IsSome (path_of ys (place_of opened))
@@ -292,12 +294,12 @@ module _ (f : SlotFunction) (start : List Slot) (instr : SlotInstr) (rest ys ns 
             let t1 = goes_on c t in
             let u = all_say (map says_of ys) t1 in
             let w1 = y.first t1 (λ none o. (and_parts t.ordered (has_span c t.known) o).1)
-                (opened_going start d c old t g opened (in_opened f start instr old marked m has k one old.scope [] opened in_yes n) (marks_opened f start instr old marked m has k one old.scope [] opened in_yes n)) in
+            (opened_going start d c old t g opened (in_opened f start instr old marked m has k one old.scope [] opened in_yes n) (marks_opened f start instr old marked m has k one old.scope [] opened in_yes n)) in
             let in_yes_end = after_opens old.emitter.code.items opened.emitter.code.items yes_end.emitter.code.items y.grew.rows d c (in_opened f start instr old marked m has k one old.scope [] opened in_yes n) y.grew.grown in
             let is_turned = turned_is f start instr old marked m has k one old.scope [] opened in_yes n y.grew.rows y.grew.nested yes_end y.grew.grown y.noted has_y [] turned in_no in
             let w2 = z.first (beside t u) (λ none o. (and_parts t.ordered (has_span c t.known) (w1.back o)).1)
-                (turned_going start d c old t g y.grew.rows yes_end.emitter.code.items turned y.grew.nested in_yes_end in_no.code is_turned u
-                (w1.seen_is ∙ ap statements_of (sym (items_of turned.marks yes_end.marks in_no.marks))) w1.back w1.passed) in
+            (turned_going start d c old t g y.grew.rows yes_end.emitter.code.items turned y.grew.nested in_yes_end in_no.code is_turned u
+            (w1.seen_is ∙ ap statements_of (sym (items_of turned.marks yes_end.marks in_no.marks))) w1.back w1.passed) in
             let in_no_end = after_flips old.emitter.code.items turned.emitter.code.items no_end.emitter.code.items y.grew.rows z.grew.rows d c is_turned z.grew.grown in
             let back = λ (o : (all_say (map says_of ns) (beside t u)).ordered ≡ true). w1.back (w2.back o) in
             subst (λ v. Ended start t v new) (ap (λ s. s t) (sym (choice_is instr ys ns e))) (record {
@@ -361,8 +363,8 @@ check_noted f start instr rest after held old marked new e may m ends same point
             back = λ o. (and_parts t.ordered (has_span c t.known) o).0;
           } in
           let is : says_of instr t ≡ goes_on c t
-              = ap (λ s. s t) ((plain_says instr (no_choice instr e)).0 (ap (λ k. (shapes_at k).is_end) e ∙ ap (λ (x : Shapes). x.is_end) require_stands))
-              ∙ ap (λ b. cond b (goes_on c t) (text (t.seen ++ c ∷ []) (c ∷ t.known) t.ordered)) (ap (has_span c) g.seen_is ∙ has) in
+          = ap (λ s. s t) ((plain_says instr (no_choice instr e)).0 (ap (λ k. (shapes_at k).is_end) e ∙ ap (λ (x : Shapes). x.is_end) require_stands))
+          ∙ ap (λ b. cond b (goes_on c t) (text (t.seen ++ c ∷ []) (c ∷ t.known) t.ordered)) (ap (has_span c) g.seen_is ∙ has) in
           subst (λ v. Ended start t v new) (sym is)
           (end_going start c marked new (check_deed instr.doing c) ends same t (goes_on c t) w (λ o. (and_parts t.ordered (has_span c t.known) o).1));
     }
