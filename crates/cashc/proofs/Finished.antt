@@ -21,7 +21,7 @@ use Rattle.source_stages.specs.Stages.{max_source_len}
 use Rattle.cash_compile.specs.declared.refusal.Refusal.{Refusal}
 use Rattle.cash_compile.specs.Compile.{IsAccepted, IsCompiled, IsUncompiled, most_bytes, most_opcodes}
 use Rattle.command_files.specs.Files.{IsFile, IsLonger, IsMissing}
-use Rattle.spend_command.specs.Spent.{max_input_len, IsFileRefusal, IsNoArtifact, IsNoSpend, IsSpendRefusal, LacksSpendFile}
+use Rattle.spend_command.specs.Spent.{max_artifact_len, max_input_len, IsRefusalUpTo, IsNoArtifact, IsNoSpend, IsSpendRefusal, LacksSpendFile}
 use Rattle.source_commands.specs.Sources.{IsRefusal, IsRefusalOf, LacksSpendOf}
 use Rattle.source_commands.specs.Meaning.{IsNoCall}
 use Rattle.cashc.specs.TopCall.{Command, compile_by, debug_by, trace_by, spend_by, meaning_by, workload_by, command_of, IsRefusedFor, LacksFile, HasReadCauseFor}
@@ -51,10 +51,10 @@ not_missing (Some fs) name bytes found missing =
 not_missing None name bytes found missing = absurd found
 
 -- it isn't refused, where its bytes aren't
-file_read : (files : Option Files) (name bytes : List ℕ) → HasFile files name bytes → length bytes ≤ max_input_len
-    → (Is : List ℕ → List ℕ → Type 0) → ((text : List ℕ) → Is bytes text → ⊥) → (text : List ℕ) → IsFileRefusal Is files name text → ⊥
-file_read files name bytes found short Is never text (inl long) = not_longer files name bytes max_input_len found short long.0
-file_read files name bytes found short Is never text (inr (other, is, within, refused)) =
+file_read : (most : ℕ) (files : Option Files) (name bytes : List ℕ) → HasFile files name bytes → length bytes ≤ most
+    → (Is : List ℕ → List ℕ → Type 0) → ((text : List ℕ) → Is bytes text → ⊥) → (text : List ℕ) → IsRefusalUpTo most Is files name text → ⊥
+file_read most files name bytes found short Is never text (inl long) = not_longer files name bytes most found short long.0
+file_read most files name bytes found short Is never text (inr (other, is, within, refused)) =
     let same : bytes ≡ other = same_file files name bytes other found is in
     never text (subst (λ (b : List ℕ). Is b text) (sym same) refused)
 
@@ -123,7 +123,7 @@ both_read law Can Is never files source spend h status text (inr (four, (program
     let compiled : IsCompiled h.source made.0 program =
     subst (λ (s : List ℕ). IsCompiled s made.0 program) (sym same) made.1.compiled in
     let read = h.has_spend in
-    file_read files spend read.bytes read.found read.short (Is program)
+    file_read max_input_len files spend read.bytes read.found read.short (Is program)
     (never program h.spend read.bytes read.reads (h.can made.0 program compiled)) text refused
 
 both_there : (Can : Artifact → SpendParts → Type 0) (files : Option Files) (source spend : List ℕ) (h : HasBoth Can files source spend)
@@ -141,7 +141,7 @@ program_read files artifact spend h text (inl refused) =
     λ told none.
     let one : Ok h.program ≡ Err none.0 = sym read.reads ∙ none.1 in
     absurd cc in
-    file_read files artifact read.bytes read.found read.short IsNoArtifact never text refused
+    file_read max_artifact_len files artifact read.bytes read.found read.short IsNoArtifact never text refused
 program_read files artifact spend h text (inr (program, is, refused)) =
     let read = h.has_artifact in
     let bytes : read.bytes ≡ is.0 = same_file files artifact read.bytes is.0 read.found is.1 in
@@ -150,7 +150,7 @@ program_read files artifact spend h text (inr (program, is, refused)) =
     let same : h.program ≡ program = cc in
     let can : CanBuild program h.spend = subst (λ (p : Artifact). CanBuild p h.spend) same h.can in
     let asked = h.has_spend in
-    file_read files spend asked.bytes asked.found asked.short (IsNoSpend program)
+    file_read max_input_len files spend asked.bytes asked.found asked.short (IsNoSpend program)
     (always_spends program h.spend asked.bytes asked.reads can) text refused
 
 program_there : (files : Option Files) (artifact spend : List ℕ) (h : HasProgram files artifact spend)

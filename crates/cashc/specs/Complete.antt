@@ -11,7 +11,7 @@ use Rattle.spend_json.specs.Given.{SpendParts}
 use Rattle.spend_json.specs.Files.{spend_reading}
 use Rattle.unlocker.specs.Spends.{Built, built_spend, Handed, built_call}
 use Rattle.cash_compile.specs.Compile.{IsAccepted, IsCompiled, most_bytes, most_opcodes}
-use Rattle.spend_command.specs.Spent.{max_input_len}
+use Rattle.spend_command.specs.Spent.{max_artifact_len, max_input_len}
 use Rattle.workload.specs.Refused.{IsWorkRefused}
 use Rattle.cashc.specs.TopCall.{Command, compile_by, debug_by, trace_by, spend_by, meaning_by, workload_by}
 
@@ -31,7 +31,7 @@ pub record HasSource (files : Option Files) (name source : List ℕ) : Type 0 wh
 pub record HasArtifact (files : Option Files) (name : List ℕ) (program : Artifact) : Type 0 where
   pub bytes : List ℕ
   pub found : HasFile files name bytes
-  pub short : length bytes ≤ max_input_len
+  pub short : length bytes ≤ max_artifact_len
   pub reads : artifact_reading bytes ≡ Ok program
 
 pub record HasSpend (files : Option Files) (name : List ℕ) (spend : SpendParts) : Type 0 where
