@@ -7,7 +7,7 @@
 //!
 //! After the status stand `out` and what was written there, and `err` and what was written there, each only where something
 //! was. A line feed is printed as `~`, and what hangs on the emitted code as `..`. Of a `brief` call only the last line of what is
-//! written stands there, exactly, and behind one of `out` the first 16 hexadecimal digits of the SHA-256 of all that was written.
+//! written stands there, and behind one that `spend` wrote to `out` the first 16 hexadecimal digits of the SHA-256 of all of it.
 #![tactic(auto)]
 
 mod call;
@@ -19,6 +19,14 @@ use cash_base::{MemorySink, MemoryStore, SureSink, SureStore};
 use cashc::top_call::cashc;
 use std::alloc::Global;
 use std::io::Read;
+
+/// Whether an artifact is spent, so that nothing hangs on emitted code.
+fn is_spend(words: &[String]) -> bool {
+    match words {
+        [command, ..] => command.as_str() == "spend",
+        [] => false,
+    }
+}
 
 /// The status of a call whose outside never fails.
 fn sure_answer(alloc: Global, call: Call) -> Result<String> {
@@ -46,12 +54,15 @@ fn answer(alloc: Global, call: Call) -> Result<String> {
     let status = cashc(alloc, words.as_slice(), &mut store, &mut out, &mut err);
     let mut text = format!(in alloc; "{status}")?;
     if brief {
-        shown::show_last(&mut text, out.bytes())?;
-        shown::show_digest(alloc, &mut text, out.bytes())?;
-        shown::show_last(&mut text, err.bytes())?;
+        let exact = is_spend(words.as_slice());
+        shown::show_last(&mut text, exact, out.bytes())?;
+        if exact {
+            shown::show_digest(alloc, &mut text, out.bytes())?;
+        }
+        shown::show_last(&mut text, exact, err.bytes())?;
     } else {
-        shown::show_written(&mut text, "out", out.bytes())?;
-        shown::show_written(&mut text, "err", err.bytes())?;
+        shown::show_written(alloc, &mut text, "out", out.bytes())?;
+        shown::show_written(alloc, &mut text, "err", err.bytes())?;
     }
     Ok(text)
 }

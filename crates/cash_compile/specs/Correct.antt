@@ -1,5 +1,4 @@
--- What correct code is: each spend that is built of it ends as the run of the source, and a refused one fails at the place
--- in the source where that run fails.
+-- Spends of a contract's code beside the runs of its source, with each quantifier said once.
 use Rattle.std.specs.Prelude.{◌≡◌, ◌↔◌, ℕ, ◌≤◌, ◌⊎◌, Bool, true, false, List, length, Some, slice_get, IsTrue}
 use Rattle.std.specs.List.{AllByRecursion}
 use Rattle.cash_base.specs.declared.fault.Cause.{Cause}
@@ -19,31 +18,72 @@ use Rattle.tx_context.specs.Limits.{IsFrame}
 use Rattle.tx_context.specs.World.{World, filled_context}
 use Rattle.tx_context.specs.Table as verdict
 use Rattle.script_codec.specs.declared.instr.Instr.{Instr}
+use Rattle.script_codec.specs.Spelling.{are_instructions}
 use Rattle.bch_vm.specs.declared.outcome.Which.TheVariants.{Redeem}
 use Rattle.bch_vm.specs.declared.outcome.MachineOutcome.{MachineOutcome}
 use Rattle.bch_vm.specs.declared.outcome.MachineOutcome.TheVariants.{Accepted, Refused}
 use Rattle.bch_vm.specs.Law.{locking_script}
 use Rattle.bch_vm.specs.Spend.{spend_outcome}
-use Rattle.script_codec.specs.Spelling.{are_instructions}
-use Rattle.artifact_json.specs.Artifact.{Artifact}
-use Rattle.cash_compile.specs.Describes.{Describes}
 use Rattle.span_map.specs.declared.SpanRow.{SpanRow}
 use Rattle.span_map.specs.Places.{place_after}
 use Rattle.unlocker.specs.Scripts.{redeem_script, spending_script}
+use Rattle.artifact_json.specs.Artifact.{Artifact}
+use Rattle.cash_compile.specs.Describes.{Describes}
 
--- ---- what a spend is built of
+-- ---- a call, and what stands outside
 
--- Elements for the constructor, a function of the contract and elements for its arguments, as many as there are parameters,
--- with a redeem script that can be pushed.
-pub record Admits (contract : Contract Slot Ty) (code : List Instr) (ctor : List (List ℕ)) (chosen : ℕ) (function : Function Slot Ty) (args : List (List ℕ)) : Type 0 where
-  pub ctor_count : length ctor ≡ length contract.params
-  pub found : slice_get contract.functions chosen ≡ Some function
-  pub arg_count : length args ≡ length function.params
-  pub ctor_elements : AllByRecursion IsElement ctor
-  pub arg_elements : AllByRecursion IsElement args
-  pub size : length (redeem_script code ctor) ≤ 520
+-- elements for the constructor, a function by its number, and elements for its arguments
+pub record Call : Type 0 where
+  pub ctor : List (List ℕ)
+  pub chosen : ℕ
+  pub args : List (List ℕ)
 
--- ---- a spend beside the run of the source
+-- as many as there are parameters, each of at most 520 bytes
+pub record IsCallOf (contract : Contract Slot Ty) (function : Function Slot Ty) (call : Call) : Type 0 where
+  pub ctor_count : length call.ctor ≡ length contract.params
+  pub found : slice_get contract.functions call.chosen ≡ Some function
+  pub arg_count : length call.args ≡ length function.params
+  pub ctor_elements : AllByRecursion IsElement call.ctor
+  pub arg_elements : AllByRecursion IsElement call.args
+
+-- and the redeem script can be pushed
+pub record Admits (contract : Contract Slot Ty) (code : List Instr) (function : Function Slot Ty) (call : Call) : Type 0 where
+  pub called : IsCallOf contract function call
+  pub size : length (redeem_script code call.ctor) ≤ 520
+
+-- how the source's run of a call ends
+abbrev pub run_of : Contract Slot Ty → Function Slot Ty → Call → World → SourceOutcome
+run_of contract function call world = source_outcome contract call.ctor function call.args world
+
+-- a transaction, and a table of verdicts
+pub record Outside : Type 0 where
+  pub frame : Transaction Locking
+  pub verdicts : List verdict.Row
+
+pub record IsOutside (outside : Outside) : Type 0 where
+  pub frame : IsFrame outside.frame
+  pub table : verdict.IsTable outside.verdicts
+
+-- The world in which a call of a contract of so many functions is spent by the built scripts: its context holds these scripts
+-- themselves.
+abbrev pub world_of : ℕ → List Instr → Call → Outside → World
+world_of functions code call outside = let redeem = redeem_script code call.ctor in record {
+  context = filled_context outside.frame (locking_script redeem) (spending_script functions call.chosen call.args redeem);
+  verdicts = outside.verdicts;
+  redeem = redeem;
+}
+
+abbrev pub spend_in : World → MachineOutcome
+spend_in world = spend_outcome world.context world.verdicts
+
+-- ---- a spend beside the run
+
+-- For every call that the contract admits, and everything outside: this holds of the call, of the spend and of the run.
+abbrev pub OnSpends : Contract Slot Ty → List Instr → (Call → MachineOutcome → SourceOutcome → Type 0) → Type 0
+OnSpends contract code P =
+    (call : Call) (function : Function Slot Ty) (outside : Outside) → Admits contract code function call → IsOutside outside
+    → P call (spend_in (world_of (length contract.functions) code call outside))
+    (run_of contract function call (world_of (length contract.functions) code call outside))
 
 -- the machine's cause is that of the run, or a false check was the last thing of all
 abbrev pub IsSameCause : MachineCause → Cause → Type 0
@@ -58,38 +98,13 @@ Agrees rows before (Refused Redeem at cause) (Failed span fault) = (place_after 
     × IsSameCause cause fault
 Agrees rows before _ _ = ⊥
 
--- the context in which a frame's active input is spent by the scripts of some elements
-abbrev pub spending_context : Contract Slot Ty → List Instr → List (List ℕ) → ℕ → List (List ℕ) → Transaction Locking
-    → Transaction (List ℕ)
-spending_context contract code ctor chosen args frame =
-    filled_context frame (locking_script (redeem_script code ctor))
-    (spending_script (length contract.functions) chosen args (redeem_script code ctor))
-
--- ... and what the run of the source can ask about: this context, a table of verdicts, and the redeem script
-abbrev pub spending_world : Contract Slot Ty → List Instr → List (List ℕ) → ℕ → List (List ℕ) → Transaction Locking
-    → List verdict.Row → World
-spending_world contract code ctor chosen args frame verdicts = record {
-  context = spending_context contract code ctor chosen args frame;
-  verdicts = verdicts;
-  redeem = redeem_script code ctor;
-}
-
--- For all elements that the contract admits, every frame and every table of verdicts, the spend agrees with the run in its
--- world.
+-- the spends agree with the runs
 abbrev pub SpendsAgree : Contract Slot Ty → List Instr → List SpanRow → Type 0
-SpendsAgree contract code rows =
-    (ctor : List (List ℕ)) (chosen : ℕ) (function : Function Slot Ty) (args : List (List ℕ)) (frame : Transaction Locking) (verdicts : List verdict.Row)
-    → Admits contract code ctor chosen function args → IsFrame frame → verdict.IsTable verdicts
-    → Agrees rows (length ctor) (spend_outcome (spending_context contract code ctor chosen args frame) verdicts)
-    (source_outcome contract ctor function args (spending_world contract code ctor chosen args frame verdicts))
+SpendsAgree contract code rows = OnSpends contract code (λ call spend run. Agrees rows (length call.ctor) spend run)
 
--- of these spends, the machine accepts exactly those whose runs are met
+-- the machine accepts exactly those whose runs are met
 abbrev pub Decides : Contract Slot Ty → List Instr → Type 0
-Decides contract code =
-    (ctor : List (List ℕ)) (chosen : ℕ) (function : Function Slot Ty) (args : List (List ℕ)) (frame : Transaction Locking) (verdicts : List verdict.Row)
-    → Admits contract code ctor chosen function args → IsFrame frame → verdict.IsTable verdicts
-    → (spend_outcome (spending_context contract code ctor chosen args frame) verdicts ≡ Accepted)
-    ↔ (source_outcome contract ctor function args (spending_world contract code ctor chosen args frame verdicts) ≡ Met)
+Decides contract code = OnSpends contract code (λ call spend run. (spend ≡ Accepted) ↔ (run ≡ Met))
 
 -- the limits of the machine on sizes and counts
 abbrev pub is_limit : MachineCause → Bool
@@ -103,14 +118,14 @@ abbrev pub is_limited : MachineOutcome → Bool
 is_limited Accepted = false
 is_limited (Refused script at cause) = is_limit cause
 
--- none of these spends comes to a limit of the machine
+-- none comes to a limit of the machine
 abbrev pub MeetsNoLimit : Contract Slot Ty → List Instr → Type 0
-MeetsNoLimit contract code =
-    (ctor : List (List ℕ)) (chosen : ℕ) (function : Function Slot Ty) (args : List (List ℕ)) (frame : Transaction Locking) (verdicts : List verdict.Row)
-    → Admits contract code ctor chosen function args → IsFrame frame → verdict.IsTable verdicts
-    → is_limited (spend_outcome (spending_context contract code ctor chosen args frame) verdicts) ≡ false
+MeetsNoLimit contract code = OnSpends contract code (λ call spend run. is_limited spend ≡ false)
 
--- the program describes the contract, its code can be spelled, and the spends of its code agree with the runs of the contract
+-- ---- a program
+
+-- The program describes the contract of the text, its code can be spelled, and the spends of its code agree with the runs of the
+-- contract, by the program's places.
 pub record IsCorrect (source : List ℕ) (contract : Contract Slot Ty) (program : Artifact) : Type 0 where
   pub rows : List SpanRow
   pub describes : Describes source contract program rows

@@ -8,9 +8,9 @@ use Rattle.cash_tree.specs.declared.Ty.{Ty}
 use Rattle.cash_tree.specs.declared.Param.{Param}
 use Rattle.cash_tree.specs.declared.Function.{Function}
 use Rattle.cash_tree.specs.declared.Contract.{Contract}
-use Rattle.cash_base.specs.Source.{text_at, IsInside}
+use Rattle.cash_base.specs.Source.{text_at}
 use Rattle.span_map.specs.declared.SpanRow.{SpanRow}
-use Rattle.artifact_json.specs.Artifact.{Artifact, AbiParam, AbiCall}
+use Rattle.artifact_json.specs.Artifact.{Artifact, AbiParam, AbiCall, IsRowInside}
 
 abbrev pub described_param : (Span → List ℕ) → Param Slot → AbiParam
 described_param name_at param = record { name = name_at param.place; ty = param.ty }
@@ -18,10 +18,6 @@ described_param name_at param = record { name = name_at param.place; ty = param.
 abbrev pub described_function : (Span → List ℕ) → Function Slot Ty → AbiCall
 described_function name_at function =
     record { name = name_at function.name; inputs = map (described_param name_at) function.params }
-
--- both places lie in a source of so many bytes
-abbrev pub IsRowInside : ℕ → SpanRow → Type 0
-IsRowInside len row = IsInside len row.doing × IsInside len row.checking
 
 -- Its source is that of the contract, its names are told so at the contract's places, its types are the contract's, and it
 -- has a row of places, inside the source, for each instruction.

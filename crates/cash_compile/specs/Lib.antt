@@ -1,8 +1,5 @@
-pub mod Compile
-pub mod Correct
 pub mod Describes
-pub mod Emission
-pub mod Form
-pub mod Rows
+pub mod Correct
 pub mod Runs
-pub mod Values
+pub mod Compile
+pub mod Code

@@ -1,29 +1,27 @@
--- The run of the code alone beside the run of the source: how both end, and at which places both fail.
-use Rattle.std.specs.Prelude.{◌≡◌, ℕ, ◌⊎◌, Bool, true, false, IsTrue, List, [], ◌∷◌, ◌++◌, length, ◌≤◌, map, slice_get, Some, Result, Ok, Err}
-use Rattle.std.specs.List.{AllByRecursion}
-use Rattle.cash_base.specs.declared.fault.Cause.{Cause}
-use Rattle.cash_base.specs.declared.fault.Cause.TheVariants.{CheckFailed}
-use Rattle.cash_base.specs.declared.fault.MachineCause.TheVariants.{Shared, EndFalse}
+-- The run of the code alone beside the run of the source, however long the redeem script is.
+use Rattle.std.specs.Prelude.{◌≡◌, ℕ, Bool, true, false, List, [], ◌∷◌, ◌++◌, length, Result, Ok, Err}
 use Rattle.cash_base.specs.declared.place.Slot.{Slot}
-use Rattle.cash_base.specs.declared.place.Span.{Span}
-use Rattle.cash_base.specs.Element.{IsElement}
 use Rattle.cash_base.specs.Number.{truth_of}
 use Rattle.cash_tree.specs.declared.Ty.{Ty}
 use Rattle.cash_tree.specs.declared.Contract.{Contract}
 use Rattle.cash_tree.specs.declared.Function.{Function}
 use Rattle.source_meaning.specs.declared.outcome.SourceOutcome.{SourceOutcome}
 use Rattle.source_meaning.specs.declared.outcome.SourceOutcome.TheVariants.{Met, Failed}
-use Rattle.source_meaning.specs.Meaning.{source_outcome}
 use Rattle.tx_context.specs.World.{World}
 use Rattle.script_codec.specs.declared.instr.Instr.{Instr}
-use Rattle.script_codec.specs.declared.spans.Spanned.{Spanned}
-use Rattle.script_codec.specs.Spelling.{are_instructions}
 use Rattle.opcode_table.specs.Stack.{Stack}
-use Rattle.bch_vm.specs.Script.{State, run_end, run_outcome, Failure}
+use Rattle.bch_vm.specs.Setting.{setting_in}
+use Rattle.bch_vm.specs.Script.{Progress, state, run, run_outcome, Failure}
 use Rattle.span_map.specs.declared.SpanRow.{SpanRow}
-use Rattle.span_map.specs.Places.{place_of}
-use Rattle.cash_compile.specs.Rows.{instructions, places}
+use Rattle.tidied_code.specs.Ends.{EndsAs}
 use Rattle.unlocker.specs.Scripts.{handed_in}
+use Rattle.cash_compile.specs.Correct.{Call, IsCallOf, run_of}
+
+-- what the pushes leave, without the redeem script: the constructor's elements on top, the first uppermost
+abbrev pub start : Contract Slot Ty → Call → Stack
+start contract call = call.ctor ++ handed_in (length contract.functions) call.chosen call.args
+
+-- ---- how a run decides
 
 -- the run of the machine ended with exactly one element, of this truth
 abbrev pub EndsIn : Bool → Result Stack Failure → Type 0
@@ -34,52 +32,25 @@ abbrev pub FailsOrEndsFalse : Result Stack Failure → Type 0
 FailsOrEndsFalse (Err failure) = Unit {0}
 FailsOrEndsFalse (Ok stack) = EndsIn false (Ok stack)
 
--- Where the source's run is met the machine's ends with one true element, and where it fails the machine's fails or
--- ends with one false element.
+-- Where the source's run is met the machine's ends with one true element, and where it fails the machine's fails or ends with
+-- one false element.
 abbrev pub AgreesAlone : SourceOutcome → Result Stack Failure → Type 0
 AgreesAlone Met outcome = EndsIn true outcome
 AgreesAlone (Failed span cause) outcome = FailsOrEndsFalse outcome
 
--- For elements of the constructor and of a function, as many as there are parameters, and every world: the run of the code on
--- what the pushes leave, the constructor's first on top, agrees with the run of the source, however long the redeem script is.
+-- for every call, in every world, the run of the code on what the pushes leave agrees with the run of the source
 abbrev pub DecidesByRun : Contract Slot Ty → List Instr → Type 0
 DecidesByRun contract code =
-    (ctor : List (List ℕ)) (chosen : ℕ) (function : Function Slot Ty) (args : List (List ℕ)) (world : World)
-    → length ctor ≡ length contract.params → slice_get contract.functions chosen ≡ Some function
-    → length args ≡ length function.params → AllByRecursion IsElement ctor → AllByRecursion IsElement args
-    → AgreesAlone (source_outcome contract ctor function args world)
-    (run_outcome world code (ctor ++ handed_in (length contract.functions) chosen args))
+    (call : Call) (function : Function Slot Ty) (world : World) → IsCallOf contract function call
+    → AgreesAlone (run_of contract function call world) (run_outcome world code (start contract call))
 
--- ---- with places
+-- ---- with places, behind whatever stands before the code
 
--- the run left one element, of this truth
-abbrev pub LeavesOne : Bool → State → Type 0
-LeavesOne truth end = (e : List ℕ) × (end.board.stack ≡ e ∷ []) × (truth_of e ≡ truth)
-
--- it failed with the cause at a row that has the place
-abbrev pub FailsAt : List SpanRow → Span → Cause → Result State Failure → Type 0
-FailsAt rows span cause end =
-    (at : ℕ) × (end ≡ Err (record { at = at; cause = Shared cause })) × (place_of rows at (Shared cause) ≡ Some span)
-
--- a check was false, and its value is all that is left; the last executed row has the place
-abbrev pub EndsFalseAt : List SpanRow → Span → Cause → Result State Failure → Type 0
-EndsFalseAt rows span cause end =
-    (s : State) × (end ≡ Ok s) × LeavesOne false s × (cause ≡ CheckFailed)
-    × (place_of rows s.progress.last EndFalse ≡ Some span)
-
--- Where the source's run is met the machine's ends with one true element. Where it fails the machine's fails with the
--- same cause at the same place, or the value of the failed check is left.
-abbrev pub EndsAs : List SpanRow → SourceOutcome → Result State Failure → Type 0
-EndsAs rows Met end = (s : State) × (end ≡ Ok s) × LeavesOne true s
-EndsAs rows (Failed span cause) end = FailsAt rows span cause end ⊎ EndsFalseAt rows span cause end
-
--- The contract has one function and no constructor parameters, and for every list of argument elements of the right
--- count, the first on top, and every world, the run of the rows ends as the run of the source.
-pub record AgreesByRun (contract : Contract Slot Ty) (rows : List Spanned) : Type 0 where
-  pub function : Function Slot Ty
-  pub only : contract.functions ≡ function ∷ []
-  pub alone : contract.params ≡ []
-  pub few : length function.params ≤ 16
-  pub spelled : IsTrue (are_instructions (instructions rows))
-  pub agrees : (args : List (List ℕ)) (world : World) → length args ≡ length function.params → AllByRecursion IsElement args
-      → EndsAs (map places rows) (source_outcome contract [] function args world) (run_end world (instructions rows) args)
+-- For every call, in every world, behind so many instructions, as the pushes of the constructor's elements, and in whichever
+-- code this one stands: its run ends as that of the source.
+abbrev pub AgreesByRun : Contract Slot Ty → List Instr → List SpanRow → Type 0
+AgreesByRun contract code rows =
+    (call : Call) (function : Function Slot Ty) (world : World) (whole : List Instr) (progress : Progress)
+    → IsCallOf contract function call
+    → EndsAs rows progress.at (run_of contract function call world)
+    (run (setting_in world whole) code (state (start contract call) progress))

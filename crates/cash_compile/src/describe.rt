@@ -3,9 +3,10 @@
 ghost use Rattle.std.specs.Prelude.{◌≡◌, length, map, string_bytes, IfOk, IsTrue};
 ghost use Rattle.std.specs.List.{AllByRecursion};
 ghost use Rattle.std.specs.Str.{IsUtf8};
-ghost use Rattle.artifact_json.specs.Artifact.{is_spelled};
-ghost use Rattle.cash_compile.specs.Rows.{instructions, places};
-ghost use Rattle.cash_compile.specs.Describes.{IsRowInside, lossy_at, described_param, described_function, DescribesBy};
+ghost use Rattle.artifact_json.specs.Artifact.{IsRowInside, is_spelled};
+ghost use Rattle.row_runs.specs.Rows.{instructions};
+ghost use Rattle.tidied_code.specs.Ends.{places};
+ghost use Rattle.cash_compile.specs.Describes.{lossy_at, described_param, described_function, DescribesBy};
 
 use artifact_json::{AbiFunction, AbiInput, Program};
 use cash_base::{Memory, Slot, Span, text_at};
@@ -14,30 +15,31 @@ use script_codec::{Instr, Spanned};
 use span_map::SpanRow;
 use std::alloc::Global;
 
-/// The program of a contract, with the rows of its code and the time of its compilation.
-#[tactic(auto, using(crate::proofs::Correct::text_kept))]
-pub fn program_of(
+/// The program of a contract, with its code, a row of places for each instruction and the time of its compilation.
+#[tactic(auto, using(crate::proofs::Described::text_kept))]
+pub(crate) fn program_of(
     alloc: Global,
     source: &[u8],
     updated: &str,
     contract: &TypedContract,
-    rows: Vec<Spanned>,
+    code: Vec<Instr>,
+    spans: Vec<SpanRow>,
 ) -> Result<Program, Memory>
-    requires spelled { IsTrue (is_spelled (instructions rows.items) (map (described_param (lossy_at source.now)) contract.now.params)
+    requires each { length spans.items ≡ length code.items }
+    requires spelled { IsTrue (is_spelled code.items (map (described_param (lossy_at source.now)) contract.now.params)
         (map (described_function (lossy_at source.now)) contract.now.functions)) }
     requires utf8 { IsUtf8 source.now }
-    requires inside { AllByRecursion (IsRowInside (length source.now)) (map places rows.items) }
-    ensures code { IfOk result (λ program. program.code ≡ instructions rows.items) }
+    requires inside { AllByRecursion (IsRowInside (length source.now)) spans.items }
+    ensures code { IfOk result (λ program. program.code ≡ code.items) }
     ensures updated { IfOk result (λ program. program.updated ≡ updated.now) }
     ensures describes { IfOk result (λ program.
-        DescribesBy (lossy_at source.now) source.now contract.now program (map places rows.items)) }
+        DescribesBy (lossy_at source.now) source.now contract.now program spans.items) }
 {
     let ctor = inputs_of(alloc, source, contract.params.as_slice())?;
     let abi = functions_of(alloc, source, contract.functions.as_slice())?;
     let name = name_of(alloc, source, contract.name)?;
     let text = String::from_utf8_lossy(alloc, source)?;
     let updated = String::from_str(alloc, updated)?;
-    let CodeAndPlaces { code, spans } = split(alloc, rows)?;
     Ok(Program {
         code,
         spans: Some(spans),
@@ -51,12 +53,12 @@ pub fn program_of(
 
 /// Instructions, and a row of places for each.
 #[derive(Drop)]
-struct CodeAndPlaces {
-    code: Vec<Instr>,
-    spans: Vec<SpanRow>,
+pub(crate) struct CodeAndPlaces {
+    pub(crate) code: Vec<Instr>,
+    pub(crate) spans: Vec<SpanRow>,
 }
 
-fn split(alloc: Global, rows: Vec<Spanned>) -> Result<CodeAndPlaces, Memory>
+pub(crate) fn split(alloc: Global, rows: Vec<Spanned>) -> Result<CodeAndPlaces, Memory>
     ensures code { IfOk result (λ split. split.code.items ≡ instructions rows.items) }
     ensures spans { IfOk result (λ split. split.spans.items ≡ map places rows.items) }
 {

@@ -1,19 +1,15 @@
 //! From a source to its contract with types.
 
-ghost use Rattle.std.specs.Prelude.{◌≡◌, ◌≢◌, ◌<◌, ◌^◌, ℕ, List, length, IfOk, IfErr, IsTrue};
+ghost use Rattle.std.specs.Prelude.{◌≡◌, ◌≢◌, ◌<◌, ◌^◌, ℕ, List, length, IfOk, IfErr};
 ghost use Rattle.source_stages.specs.declared.fault.SourceFault.TheVariants.{Memory as FaultOfMemory};
 ghost use Rattle.source_stages.specs.Stages as stages;
 ghost use Rattle.cash_compile.specs.declared.refusal.Refusal.TheVariants.{Memory};
-ghost use Rattle.cash_compile.specs.Form.{is_equality};
-ghost use Rattle.cash_compile.specs.Emission.{IsContractInside};
-ghost use Rattle.cash_compile.specs.Compile.{IsRefused};
+ghost use Rattle.cash_compile.specs.Compile.{IsAccepted, IsRefused};
 
 use crate::refusal::Refusal;
-use cash_parser::spans_come_apart;
 use cash_tree::TypedContract;
-use source_stages::{SourceFault, accepted_contracts};
+use source_stages::SourceFault;
 use std::alloc::Global;
-use type_check::types_keep;
 
 /// The refusal for what is wrong with a source.
 fn refusal_of(fault: SourceFault) -> Refusal
@@ -34,13 +30,9 @@ fn refusal_of(fault: SourceFault) -> Refusal
 /// where memory ran out.
 pub fn typed_contract_of(alloc: Global, source: &[u8]) -> Result<TypedContract, Refusal>
     requires { length source.now < 2 ^ 32 }
-    ensures typed { IfOk result (λ contract. stages.IsAccepted source.now contract) }
-    ensures inside { IfOk result (λ contract. IsTrue (is_equality contract) → IsContractInside (length source.now) contract) }
+    ensures accepted { IfOk result (λ contract. IsAccepted source.now contract) }
     ensures refused { IfErr result (λ refusal. refusal ≢ Memory → IsRefused source.now refusal) }
 {
-    accepted_contracts();
-    types_keep();
-    spans_come_apart();
     match source_stages::typed_contract_of(alloc, source) {
         Ok(contract) => Ok(contract),
         Err(fault) => Err(refusal_of(fault)),

@@ -3,15 +3,16 @@
 ghost use Rattle.std.specs.Prelude.{◌≡◌};
 ghost use Rattle.cash_compile.specs.declared.refusal.Refusal.TheVariants.{Memory};
 
-use cash_base::{Memory, Span};
+use cash_base::Memory;
 use cash_lexer::LexFault;
 use cash_names::NameFault;
 use cash_parser::ParseFault;
+use script_codec::Instr;
 use std::alloc::AllocError;
 use type_check::TypeFault;
 
 /// Why a source isn't compiled: the first stage that gives nothing, in this order.
-#[derive(Debug, Drop)]
+#[derive(Drop)]
 pub enum Refusal {
     /// It has this number of bytes, more than 65,536.
     SourceTooLong { bytes: u32 },
@@ -25,8 +26,12 @@ pub enum Refusal {
     Name(NameFault),
     /// A node of its named tree has no type. The fault is never want of memory.
     Typing(TypeFault),
-    /// It is well typed, but not of the form that is built so far; the span is that of the contract.
-    NotBuilt { span: Span },
+    /// Its code, which is carried, has this number of bytes, more than the 520 of a redeem script, and at most those of the
+    /// contract's room.
+    CodeTooLong { bytes: usize, code: Vec<Instr> },
+    /// Its code, which is carried, has few enough bytes, and counts this number of opcodes, more than the 201 of a script, and
+    /// at most those of the contract's room.
+    TooManyOps { count: u32, code: Vec<Instr> },
     /// Memory ran out.
     Memory,
 }

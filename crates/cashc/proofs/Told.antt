@@ -1,10 +1,7 @@
 -- What the sinks of the top call told, and what is told of a stop.
-use Rattle.std.proofs.Common.{◌≢◌, ℕ, ◌++◌, List, [], length, Option, option_map, Result, Ok, Err, sym, ap, ◌∙◌}
+use Rattle.std.proofs.Common.{ℕ, ◌++◌, List, length, Option, option_map, Result, Ok, Err, sym, ap, ◌∙◌}
 use Rattle.std.proofs.Math.Seq.{take-length}
 use Rattle.cash_base.specs.Outside.{Writes}
-use Rattle.spend_debug.specs.declared.report.InputStop.{InputStop}
-use Rattle.spend_debug.specs.declared.report.InputStop.TheVariants as stops
-use Rattle.spend_debug.specs.Telling.{input_line}
 use Rattle.cashc.specs.TopCall.{Tried}
 
 -- a write was tried
@@ -14,18 +11,3 @@ tried old new before now text (Ok u) w = record {
   whole = λ quiet. w.all;
 }
 tried old new before now text (Err e) w = record { front = w.failed.1; whole = λ quiet. absurd (quiet w.failed.0) }
-
--- something is said of what refuses what is handed in
-pub input_said : (stop : InputStop) → input_line stop ≢ []
-input_said stops.BadHex is = cc
-input_said stops.Range is = cc
-input_said stops.TooMany is = cc
-input_said (stops.WrongCount wanted found) is = cc
-input_said stops.NoSuchFunction is = cc
-input_said (stops.RedeemTooLong bytes) is = cc
-input_said stops.WrongValue is = cc
-input_said (stops.WrongLength wanted found) is = cc
-input_said stops.IntRange is = cc
-input_said (stops.TooLong bytes) is = cc
-input_said (stops.UnlockTooLong bytes) is = cc
-input_said stops.PushesGiven is = cc

@@ -1,3 +1,3 @@
 pub mod Answering
-pub mod RefusalText
+pub mod Complete
 pub mod TopCall

@@ -1,6 +1,6 @@
-//! The compiler of contracts for Bitcoin Cash: its commands, how it prints refusals, and its top call.
+//! The compiler of contracts for Bitcoin Cash: its commands, and its top call.
 #![tactic(auto)]
 
 mod commands;
-pub mod refusal_text;
+pub mod laws;
 pub mod top_call;

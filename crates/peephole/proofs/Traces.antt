@@ -47,7 +47,7 @@ abbrev ending_in : Option Span → List Event → Option Span
 ending_in s [] = s
 ending_in s (e ∷ events) = ending_in (Some e.checking) events
 
-last_append : (a b : List Event) (s : Option Span) → last_statement s (a ++ b) ≡ last_statement (last_statement s a) b
+pub last_append : (a b : List Event) (s : Option Span) → last_statement s (a ++ b) ≡ last_statement (last_statement s a) b
 last_append [] b s = refl
 last_append (e ∷ a) b s = last_append a b (cond e.control s (Some e.checking))
 
@@ -110,7 +110,7 @@ trace_after world front a b m h u =
 
 -- ---- instructions that are no IF, NOTIF, ELSE and ENDIF
 
-ends_condition : (opcode : ℕ) → is_condition opcode ≡ false → ends_block opcode ≡ false
+pub ends_condition : (opcode : ℕ) → is_condition opcode ≡ false → ends_block opcode ≡ false
 ends_condition opcode h = by (opcode == 0x67) refl (opcode == 0x68) refl
   where
     by : (a : Bool) → (opcode == 0x67) ≡ a → (b : Bool) → (opcode == 0x68) ≡ b → (a || b) ≡ false

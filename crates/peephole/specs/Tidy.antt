@@ -7,6 +7,7 @@ use Rattle.script_codec.specs.declared.instr.Instr.{Instr}
 use Rattle.script_codec.specs.declared.instr.Instr.TheVariants.{Push, Do}
 use Rattle.script_codec.specs.declared.spans.Spanned.{Spanned}
 use Rattle.script_codec.specs.Spelling.{are_instructions, spellings}
+use Rattle.script_codec.specs.Names.{are_named}
 use Rattle.script_codec.specs.Reading.{reading}
 use Rattle.script_codec.specs.Counting.{counted_in}
 use Rattle.bch_vm.specs.Board.{Board, is_condition}
@@ -96,6 +97,7 @@ pub record Tidied (before after : List Spanned) : Type 0 where
   pub unseparated : IsTrue (is_unseparated (instructions after))
   pub runs : RunsAlike before after
   pub counted : KeepsCount (instructions before) (instructions after)
+  pub named : IsTrue (are_named (instructions before)) → IsTrue (are_named (instructions after))
   pub added : AddsNone (instructions before) (instructions after)
 
 -- the end of the code, from a place on, may be replaced

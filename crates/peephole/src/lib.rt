@@ -1,10 +1,12 @@
 //! Code that is made shorter by rewrite rules until none matches.
 #![tactic(auto)]
 
-ghost use Rattle.std.specs.Prelude.{◌≡◌, [], IfOk, IsTrue};
+ghost use Rattle.std.specs.Prelude.{◌≡◌, List, [], IfOk, IsTrue};
+ghost use Rattle.script_codec.specs.declared.spans.Spanned.{Spanned};
 ghost use Rattle.selector.specs.Place.{is_unseparated};
 ghost use Rattle.row_runs.specs.Rows.{instructions};
 ghost use Rattle.peephole.specs.Tidy.{Tidied};
+ghost use Rattle.peephole.specs.Scripts.{RunsAnywhere};
 
 mod tidying;
 
@@ -30,6 +32,7 @@ use tidying::tidied;
 /// - Its list of pairs of spans is that of the code with some left out.
 /// - Where each CHECKMULTISIG and CHECKMULTISIGVERIFY of spelled code stands directly behind the push of a number from 0 to 20, so
 ///   does each of the answer, and it counts no more opcodes.
+/// - Where each opcode of the code has a name, so has each of the answer.
 /// - It has none of DEPTH, TOALTSTACK, FROMALTSTACK and CODESEPARATOR that isn't in the code.
 ///
 /// The rules and these conditions are this project's own.
@@ -52,3 +55,14 @@ pub fn tidy(alloc: Global, code: Marked) -> Result<Marked, Memory>
         marks: Vec::new(alloc),
     })
 }
+
+/// A run of rows that have no CODESEPARATOR is the machine's run of their instructions, wherever they stand in the machine's code,
+/// and whatever was executed before them.
+///
+/// Both leave the same stacks and open conditions, or fail for the same cause, the rows at the place of the row that fails. The
+/// machine's last executed instruction other than IF, NOTIF, ELSE and ENDIF has the checking span of the last of these rows; where
+/// none of them is executed, it is the one from before.
+#[tactic(auto, using(crate::proofs::Located::runs_anywhere))]
+pub fn rows_run_anywhere()
+    ensures { (rows : List Spanned) → IsTrue (is_unseparated (instructions rows)) → RunsAnywhere rows }
+{}

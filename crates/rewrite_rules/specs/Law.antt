@@ -20,12 +20,12 @@ use Rattle.rewrite_rules.specs.Rules.{Rule, window_of, replacement_of}
 abbrev pub outer_opcodes : List ℕ
 outer_opcodes = 0x74 ∷ 0x6b ∷ 0x6c ∷ 0xab ∷ []
 
--- a plain opcode that is no push, and none of these
+-- a plain opcode that is no push, from 61 to bc (hexadecimal), of which each has a name, and none of these
 abbrev pub may_be_added : Instr → Bool
 may_be_added (Push e) = false
 may_be_added (Do opcode) =
     nat_lt 0x60 opcode.0 && not (list_any (λ other. opcode.0 == other) outer_opcodes) && is_plain (Do opcode)
-    && not (counts_elements (Do opcode))
+    && not (counts_elements (Do opcode)) && nat_lt opcode.0 0xbd
 
 -- A check of several signatures is in the place of one that stood first in the window.
 abbrev pub keeps_checks : List Instr → List Instr → Bool

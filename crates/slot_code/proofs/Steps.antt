@@ -1,5 +1,5 @@
--- What each kind of instruction does, where the values stand around it, and what it weighs, by its line in the definition.
-use Rattle.std.proofs.Common.{◌≡◌, ℕ, Bool, List, map}
+-- What each kind of instruction does, where the values stand around it, what it weighs, and its spans, by its line in the definition.
+use Rattle.std.proofs.Common.{◌≡◌, ℕ, Bool, List, [], ◌∷◌, ◌++◌, map}
 use Rattle.arrayvec.specs.ArrayVec.{ArrayVec}
 use Rattle.cash_base.specs.declared.place.Span.{Span}
 use Rattle.cash_base.specs.declared.place.Slot.{Slot}
@@ -18,6 +18,7 @@ use Rattle.slot_code.specs.declared.slots.SlotKind.TheFolds.{fold-roll-SlotInstr
 use Rattle.slot_code.specs.Meaning.{Act, act_of, act_at, kind_act, instr_act}
 use Rattle.slot_code.specs.Shape.{Shapes, shapes_of, shapes_at, kind_shapes, instr_shapes, stands_in}
 use Rattle.slot_code.specs.Weight.{Weighs, weighs_of, weighs_at, kind_weighs, instr_weighs}
+use Rattle.slot_code.specs.Spans.{spans_of, spans_at, kind_spans, instr_spans, code_spans}
 
 abbrev Layer : Type 0
 Layer = SlotKind-F SlotKind SlotInstr
@@ -363,3 +364,116 @@ pub if_weighs : (a b : List SlotInstr) → weighs_at (kinds.If a b) ≡ kind_wei
 unfolding weighs_of weighs_at roll-SlotKind denote.Hole.Carrier.roll
 if_weighs a b =
     let layer : Layer = SlotKind-F.If a b in fold-roll-SlotKind Weighs Weighs kind_weighs instr_weighs layer
+
+-- ---- its spans
+
+pub whole_spans : (i : SlotInstr) → spans_of i ≡ i.doing ∷ i.checking ∷ spans_at i.kind
+unfolding spans_of spans_at
+whole_spans i =
+    let layer : Whole = record { kind = i.kind; doing = i.doing; checking = i.checking } in
+    fold-roll-SlotInstr (List Span) (List Span) kind_spans instr_spans layer
+
+pub lit_spans : (e : ArrayVec ℕ) → spans_at (kinds.Lit e) ≡ []
+unfolding spans_of spans_at roll-SlotKind denote.Hole.Carrier.roll
+lit_spans e =
+    let layer : Layer = SlotKind-F.Lit e in fold-roll-SlotKind (List Span) (List Span) kind_spans instr_spans layer
+
+pub get_spans : (slot : Slot) → spans_at (kinds.Get slot) ≡ []
+unfolding spans_of spans_at roll-SlotKind denote.Hole.Carrier.roll
+get_spans slot =
+    let layer : Layer = SlotKind-F.Get slot in fold-roll-SlotKind (List Span) (List Span) kind_spans instr_spans layer
+
+pub do1_spans : (op : Op1) → spans_at (kinds.Do1 op) ≡ []
+unfolding spans_of spans_at roll-SlotKind denote.Hole.Carrier.roll
+do1_spans op =
+    let layer : Layer = SlotKind-F.Do1 op in fold-roll-SlotKind (List Span) (List Span) kind_spans instr_spans layer
+
+pub do2_spans : (op : Op2) → spans_at (kinds.Do2 op) ≡ []
+unfolding spans_of spans_at roll-SlotKind denote.Hole.Carrier.roll
+do2_spans op =
+    let layer : Layer = SlotKind-F.Do2 op in fold-roll-SlotKind (List Span) (List Span) kind_spans instr_spans layer
+
+pub do3_spans : (op : Op3) → spans_at (kinds.Do3 op) ≡ []
+unfolding spans_of spans_at roll-SlotKind denote.Hole.Carrier.roll
+do3_spans op =
+    let layer : Layer = SlotKind-F.Do3 op in fold-roll-SlotKind (List Span) (List Span) kind_spans instr_spans layer
+
+pub split_spans : spans_at kinds.Split ≡ []
+unfolding spans_of spans_at roll-SlotKind denote.Hole.Carrier.roll
+split_spans =
+    let layer : Layer = SlotKind-F.Split in fold-roll-SlotKind (List Span) (List Span) kind_spans instr_spans layer
+
+pub keep_spans : (right : Bool) → spans_at (kinds.Keep right) ≡ []
+unfolding spans_of spans_at roll-SlotKind denote.Hole.Carrier.roll
+keep_spans right =
+    let layer : Layer = SlotKind-F.Keep right in fold-roll-SlotKind (List Span) (List Span) kind_spans instr_spans layer
+
+pub look0_spans : (what : Look0) → spans_at (kinds.Look0 what) ≡ []
+unfolding spans_of spans_at roll-SlotKind denote.Hole.Carrier.roll
+look0_spans what =
+    let layer : Layer = SlotKind-F.Look0 what in fold-roll-SlotKind (List Span) (List Span) kind_spans instr_spans layer
+
+pub look_at_spans : (what : LookAt) → spans_at (kinds.LookAt what) ≡ []
+unfolding spans_of spans_at roll-SlotKind denote.Hole.Carrier.roll
+look_at_spans what =
+    let layer : Layer = SlotKind-F.LookAt what in fold-roll-SlotKind (List Span) (List Span) kind_spans instr_spans layer
+
+pub check_sig_spans : spans_at kinds.CheckSig ≡ []
+unfolding spans_of spans_at roll-SlotKind denote.Hole.Carrier.roll
+check_sig_spans =
+    let layer : Layer = SlotKind-F.CheckSig in fold-roll-SlotKind (List Span) (List Span) kind_spans instr_spans layer
+
+pub check_data_spans : spans_at kinds.CheckData ≡ []
+unfolding spans_of spans_at roll-SlotKind denote.Hole.Carrier.roll
+check_data_spans =
+    let layer : Layer = SlotKind-F.CheckData in fold-roll-SlotKind (List Span) (List Span) kind_spans instr_spans layer
+
+pub check_multi_spans : (sigs keys : ℕ) → spans_at (kinds.CheckMulti sigs keys) ≡ []
+unfolding spans_of spans_at roll-SlotKind denote.Hole.Carrier.roll
+check_multi_spans sigs keys =
+    let layer : Layer = SlotKind-F.CheckMulti sigs keys in fold-roll-SlotKind (List Span) (List Span) kind_spans instr_spans layer
+
+pub time_spans : spans_at kinds.Time ≡ []
+unfolding spans_of spans_at roll-SlotKind denote.Hole.Carrier.roll
+time_spans =
+    let layer : Layer = SlotKind-F.Time in fold-roll-SlotKind (List Span) (List Span) kind_spans instr_spans layer
+
+pub age_spans : spans_at kinds.Age ≡ []
+unfolding spans_of spans_at roll-SlotKind denote.Hole.Carrier.roll
+age_spans =
+    let layer : Layer = SlotKind-F.Age in fold-roll-SlotKind (List Span) (List Span) kind_spans instr_spans layer
+
+pub require_spans : spans_at kinds.Require ≡ []
+unfolding spans_of spans_at roll-SlotKind denote.Hole.Carrier.roll
+require_spans =
+    let layer : Layer = SlotKind-F.Require in fold-roll-SlotKind (List Span) (List Span) kind_spans instr_spans layer
+
+pub chunk_spans : spans_at kinds.Chunk ≡ []
+unfolding spans_of spans_at roll-SlotKind denote.Hole.Carrier.roll
+chunk_spans =
+    let layer : Layer = SlotKind-F.Chunk in fold-roll-SlotKind (List Span) (List Span) kind_spans instr_spans layer
+
+pub define_spans : (slot : Slot) → spans_at (kinds.Define slot) ≡ []
+unfolding spans_of spans_at roll-SlotKind denote.Hole.Carrier.roll
+define_spans slot =
+    let layer : Layer = SlotKind-F.Define slot in fold-roll-SlotKind (List Span) (List Span) kind_spans instr_spans layer
+
+pub define_pair_spans : (left right : Slot) → spans_at (kinds.DefinePair left right) ≡ []
+unfolding spans_of spans_at roll-SlotKind denote.Hole.Carrier.roll
+define_pair_spans left right =
+    let layer : Layer = SlotKind-F.DefinePair left right in fold-roll-SlotKind (List Span) (List Span) kind_spans instr_spans layer
+
+pub assign_spans : (slot : Slot) → spans_at (kinds.Assign slot) ≡ []
+unfolding spans_of spans_at roll-SlotKind denote.Hole.Carrier.roll
+assign_spans slot =
+    let layer : Layer = SlotKind-F.Assign slot in fold-roll-SlotKind (List Span) (List Span) kind_spans instr_spans layer
+
+pub end_of_spans : (slot : Slot) → spans_at (kinds.End slot) ≡ []
+unfolding spans_of spans_at roll-SlotKind denote.Hole.Carrier.roll
+end_of_spans slot =
+    let layer : Layer = SlotKind-F.End slot in fold-roll-SlotKind (List Span) (List Span) kind_spans instr_spans layer
+
+pub if_spans : (a b : List SlotInstr) → spans_at (kinds.If a b) ≡ code_spans a ++ code_spans b
+unfolding spans_of spans_at roll-SlotKind denote.Hole.Carrier.roll
+if_spans a b =
+    let layer : Layer = SlotKind-F.If a b in fold-roll-SlotKind (List Span) (List Span) kind_spans instr_spans layer

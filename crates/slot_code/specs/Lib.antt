@@ -1,3 +1,4 @@
 pub mod Meaning
 pub mod Shape
 pub mod Weight
+pub mod Spans

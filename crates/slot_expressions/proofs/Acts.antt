@@ -1,12 +1,11 @@
 -- What each row does to the operands.
-use Rattle.std.proofs.Common.{◌≡◌, ℕ, Bool, List, [], ◌∷◌, Result, Ok, Err, refl, sym, ap, ◌∙◌}
+use Rattle.std.proofs.Common.{◌≡◌, ℕ, Bool, [], ◌∷◌, Ok, ap, ◌∙◌}
 use Rattle.std.specs.Prelude.{unwrap_or, if◌then◌else◌}
 use Rattle.arrayvec.specs.ArrayVec.{ArrayVec}
 use Rattle.cash_base.specs.declared.place.Span.{Span}
 use Rattle.cash_base.specs.declared.place.Slot.{Slot}
 use Rattle.cash_base.specs.declared.look.Look0.{Look0}
 use Rattle.cash_base.specs.declared.look.LookAt.{LookAt}
-use Rattle.cash_base.specs.Failing.{◌>>=◌}
 use Rattle.element_ops.specs.declared.op.Op1.{Op1}
 use Rattle.element_ops.specs.declared.op.Op2.{Op2}
 use Rattle.element_ops.specs.declared.op.Op2.TheVariants.{Cat}
@@ -17,7 +16,7 @@ use Rattle.tx_context.specs.Lookup.{context_value, indexed_value}
 use Rattle.tx_context.specs.Verdict.{single_verdict}
 use Rattle.tx_context.specs.declared.verdict.Kind.TheVariants.{Single, DataSig}
 use Rattle.form_tables.specs.Forms.{verdict_result, pushed_chunk}
-use Rattle.source_meaning.specs.Meaning.{Env, at_span}
+use Rattle.source_meaning.specs.Meaning.{at_span}
 use Rattle.slot_code.specs.declared.slots.SlotKind.{SlotKind}
 use Rattle.slot_code.specs.declared.slots.SlotKind.TheVariants as kinds
 use Rattle.slot_code.specs.Meaning.{State, state, Act, act_of, act_at}

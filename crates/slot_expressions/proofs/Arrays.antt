@@ -1,6 +1,6 @@
 -- Arrays: expressions one after the other, the check of several signatures, and scripts of data.
 use Rattle.std.proofs.Common.{◌≡◌, ◌≤◌, ◌<◌, ℕ, suc, ◌+◌, ◌*◌, Bool, true, false, get_or, List, [], ◌∷◌, ◌++◌, length, map, drop, take, pos, Result, Ok, Err, refl, sym, ap, ◌∙◌, subst, arith, append_assoc}
-use Rattle.std.specs.Prelude.{◌&&◌, nat_le, Some, None, Option, if◌then◌else◌, reverse, slice_get, option_and_then}
+use Rattle.std.specs.Prelude.{◌&&◌, nat_le, Some, None, if◌then◌else◌, reverse, slice_get, option_and_then}
 use Rattle.std.specs.Str.{bytes_eq}
 use Rattle.std.proofs.lemmas.List.{append-nil, reverse-append, reverse-reverse, length-reverse, length-append, length-map, take_at, drop_at, at_drop_more, drop_all}
 use Rattle.std.proofs.lemmas.Option.{slice_get-get_or}
@@ -18,7 +18,7 @@ use Rattle.tx_context.specs.Verdict.{multi_verdict}
 use Rattle.cash_tree.specs.declared.Ty.{Ty}
 use Rattle.cash_tree.specs.declared.ExprKind.{ExprKind}
 use Rattle.cash_tree.specs.declared.ExprKind.TheVariants as exprs
-use Rattle.cash_tree.specs.Nodes.{total}
+use Rattle.cash_tree.specs.Nodes.{joined}
 use Rattle.type_tables.specs.Tables.{TypedExpr}
 use Rattle.form_tables.specs.declared.forms.CallForm.TheVariants as forms
 use Rattle.form_tables.specs.Forms.{data_front, pushed_chunk, verdict_result}
@@ -31,19 +31,25 @@ use Rattle.slot_code.specs.declared.slots.SlotKind.TheVariants as kinds
 use Rattle.slot_code.specs.Meaning.{State, state, act_of, run_of, gives, stuck, checks_many, sigs_on, keys_on}
 use Rattle.slot_code.specs.Shape.{Operand, Place, with_operands, works_on, all_shapes, shapes_of, value as work, number, has_literal, is_element, counts_fit, checks_many as shape_many}
 use Rattle.slot_code.proofs.Steps as steps
-use Rattle.slot_expressions.specs.declared.expressions.Width.TheVariants as widths
-use Rattle.slot_expressions.specs.Ready.{Known-names, any_name, is_ready, is_ready_kind, ready_items, ready_items_kind, ready_node, form_ready, counts_fit as fit, Ready, ReadyAll, ReadyForm}
-use Rattle.slot_expressions.specs.Room.{Price, price, ◌⊕◌, nothing, one, sum, push_of, other_chunk, chunk_price, as_chunk, form_price, priced, price_of, price_at, spelled, spelled_at, chunks_of, chunks_at}
+use Rattle.slot_expressions.specs.Ready.{Known-names, any_name, is_ready, ready_items, ready_items_kind, ready_node, form_ready, counts_fit as fit, Ready, ReadyAll, ReadyForm}
+use Rattle.slot_expressions.specs.Room.{price, ◌⊕◌, sum, push_of, as_chunk, form_price, priced, price_of, price_at, chunks_of, chunks_at}
 use Rattle.slot_expressions.specs.Rows.{lit}
-use Rattle.slot_expressions.specs.Pieces.{Elements, Gives, Code, Puts, Stands, Begins, one_of, LowersValue, LowersElement, LowersAll, LowersItems, LowersChunk, LowersChunks, LowersArray, LowersForm, LeftAll, LeftChunks, instruction, in_scope, put_items, put_element}
+use Rattle.slot_expressions.specs.Spans.{SpannedBy, own_spans, own_spans_at}
+use Rattle.slot_expressions.specs.Reads.{Gets, names_in, item_names}
+use Rattle.slot_expressions.proofs.NameSteps as naming
+use Rattle.slot_expressions.proofs.ReadRows as read
+use Rattle.slot_expressions.specs.Pieces.{Gives, Code, Stands, LowersElement, LowersAll, LowersItems, LowersChunk, LowersChunks, LowersArray, LowersForm, LeftAll, LeftChunks, instruction, in_scope}
 use Rattle.slot_expressions.proofs.ReadySteps as ready
 use Rattle.slot_expressions.proofs.RoomSteps as room
+use Rattle.slot_expressions.proofs.SpanSteps as spanned
+use Rattle.slot_expressions.proofs.Spanning.{Covers, covers_as, covers_then, covers_cons, covers_first, covers_rest, covers_left, covers_right, spanned_none, spanned_in, spanned_both, spanned_sum, spanned_row}
 use Rattle.slot_expressions.proofs.Lights.{Under, under, light_as, light_none, light_both, light_row, light_then, lit_weighs, count_push}
 use Rattle.slot_expressions.proofs.Readies.{sigs_fit, few_keys, few_sigs}
 use Rattle.slot_expressions.proofs.Puts.{bind_bind, bind_two, put_one, run_append, run_one, puts_as, puts_both}
 use Rattle.slot_expressions.proofs.Standing.{if_true, le_true, shape_append, row_shape, stands_both, stands_most, stands_put, begins_more}
-use Rattle.slot_expressions.proofs.Single.{and_left, and_right, and_intro, code_op2, code_of, code_as, code_most, code_ready, code_put, lowers, grown1, grown2}
-use Rattle.slot_expressions.proofs.Acts.{row_done, chunk_acts, do2_acts}
+use Rattle.slot_expressions.proofs.Tests.{and_left, and_right, and_intro}
+use Rattle.slot_expressions.proofs.Single.{code_as, code_most, code_ready, code_put, lowers, grown1, grown2}
+use Rattle.slot_expressions.proofs.Acts.{row_done}
 use Rattle.slot_expressions.proofs.Lowered.{bytes_acts, bytes_stand}
 use Rattle.slot_expressions.proofs.Chunks.{chunk_at}
 
@@ -58,6 +64,8 @@ all_none code checking = record {
   count = refl;
   stands = λ slots is. record { fits = omega arith; stands = λ p in_slots seen room. refl };
   light = light_none;
+  spans = spanned_none;
+  gets = read.gets_none;
 }
 
 more_put : (r : Result (List ℕ) Failure) (more : Result (List (List ℕ)) Failure)
@@ -78,6 +86,8 @@ all_more {old} {mid} {new} {checking} {e} {parts} h t = record {
       (stands_both (h.stands slots (and_left (is_ready (in_scope slots) e) (all_of (map (is_ready (in_scope slots)) parts)) is))
       (t.stands slots (and_right (is_ready (in_scope slots) e) (all_of (map (is_ready (in_scope slots)) parts)) is)));
   light = light_both h.light t.light;
+  spans = spanned_sum h.spans t.spans;
+  gets = read.gets_both h.gets t.gets;
 }
 
 next_item : (parts : List TypedExpr) (x : TypedExpr) (i : ℕ) → i < length parts → x ≡ get_or parts i x → drop i parts ≡ x ∷ drop (i + 1) parts
@@ -122,6 +132,8 @@ lowers_items {old} {new} {checking} {e} {items} is h =
       stands = λ slots r. stands_most (omega (arith, source.whole_counted e, ap kind_count is, source.array_counted items)) (h.stands slots (sym (ap all_of (tested (in_scope slots))) ∙ r));
       light = light_as (under (room.whole_priced e ∙ ap price_at is ∙ room.array_priced items)) h.light;
       chunks = ap length (room.whole_chunks e ∙ ap chunks_at is ∙ room.array_chunks items) ∙ length-map items (λ (part : TypedExpr). as_chunk (priced part));
+      spans = spanned_in (covers_rest (covers_as (spanned.whole_spanned e ∙ ap (λ l. e.span ∷ l) (ap own_spans_at is ∙ spanned.array_spanned items)))) h.spans;
+      gets = read.gets_as (naming.array_named e items is) h.gets;
     }
 
 -- ---- scripts of data
@@ -134,6 +146,8 @@ chunks_none code checking span = record {
       subst (λ l. Code l checking (λ world env. v world env >>= λ so_far. Ok so_far) (λ known. own known && true) (most + 4 * 0)) (sym (append-nil begun))
       (code_most (omega arith) (code_ready (λ known r. and_left (own known) true r) (code_as (λ world env. same (v world env)) h)));
   light = light_none;
+  spans = spanned_none;
+  gets = read.gets_none;
 }
   where
     same : (r : Result (List ℕ) Failure) → r ≡ (r >>= λ x. Ok x)
@@ -162,6 +176,11 @@ chunks_more {old} {mid} {new} {checking} {span} {e} {parts} h t = record {
       (code_most (omega arith) (code_ready (λ known r. and_assoc (own known) (is_ready known e) (all_of (map (is_ready known) parts)) r)
       (code_as (λ world env. more_chunk (v world env) (value_of world env e) (map (value_of world env) parts) span) more)));
   light = light_both h.light t.light;
+  spans =
+      let covers : Covers (span ∷ (own_spans e ++ joined (map own_spans parts))) (span ∷ (own_spans e ++ joined (map own_spans parts))) = covers_as refl in
+      spanned_both (spanned_in (covers_cons (covers_first covers) (covers_left (own_spans e) (joined (map own_spans parts)) (covers_rest covers))) h.spans)
+      (spanned_in (covers_cons (covers_first covers) (covers_right (own_spans e) (joined (map own_spans parts)) (covers_rest covers))) t.spans);
+  gets = read.gets_both h.gets t.gets;
 }
 
 pub left_chunks_none : (code : List SlotInstr) (checking span : Span) (parts : List TypedExpr) → ReadyAll parts → LeftChunks code code checking span parts 0
@@ -194,6 +213,11 @@ lowers_array {old} {new} {checking} {span} {e} {items} is h =
           (code_ready (λ known r. and_as (own known) (all_of (ready_items known e)) (all_of (map (is_ready known) items)) (ap all_of (tested known)) r)
           (code_as (λ world env. ap (λ vs. v world env >>= λ so_far. with_chunks span so_far vs) (sym (listed world env))) (h.code begun v own most c)));
       light = light_as (under (ap sum (room.whole_chunks e ∙ ap chunks_at is ∙ room.array_chunks items))) h.light;
+      spans =
+          let covers : Covers (span ∷ own_spans e) (span ∷ own_spans e) = covers_as refl in
+          let listed = covers_rest (covers_as (spanned.whole_spanned e ∙ ap (λ l. e.span ∷ l) (ap own_spans_at is ∙ spanned.array_spanned items))) in
+          spanned_in (covers_cons (covers_first covers) (covers_then (covers_rest covers) listed)) h.spans;
+      gets = read.gets_as (naming.array_named e items is) h.gets;
     }
   where
     and_as : (a b c : Bool) → b ≡ c → (a && b) ≡ true → (a && c) ≡ true
@@ -216,6 +240,8 @@ no_items {code} {checking} {e} other =
       stands = λ slots r. record { fits = omega arith; stands = λ p in_slots seen room. refl };
       light = light_none;
       chunks = ap length (room.whole_chunks e ∙ room.no_array_chunks e.kind other);
+      spans = spanned_none;
+      gets = read.gets_as (naming.no_array_named e other) read.gets_none;
     }
 
 pub no_chunks : {code : List SlotInstr} {checking span : Span} {e : TypedExpr} → ((items : List TypedExpr) → e.kind ≡ exprs.Array items → ⊥) → LowersArray code code checking span e
@@ -229,6 +255,8 @@ no_chunks {code} {checking} {span} {e} other =
           code_most (omega arith) (code_ready (λ known r. and_intro (own known) true (and_left (own known) (all_of (ready_items known e)) r) refl)
           (code_as (λ world env. ap (λ vs. v world env >>= λ so_far. with_chunks span so_far vs) (sym (listed world env))) (t.code begun v own most c)));
       light = light_none;
+      spans = spanned_none;
+      gets = read.gets_as (naming.no_array_named e other) read.gets_none;
     }
 
 data_is : (r : Result (List ℕ) Failure) → (r >>= λ whole. Ok (GivenOne whole)) ≡ (r >>= λ e. Ok (GivenOne e))
@@ -241,7 +269,10 @@ form_data {old} {begun} {new} {checking} {span} {a} first h =
       lowered = lowers (λ world env. form_value world span forms.HoldsData (node_of world env a ∷ [])) (λ known. form_ready forms.HoldsData (ready_node known a ∷ [])) (node_count a + 0 + 1)
           (grown1 old (instruction (lit data_front) span checking ∷ []) h.rows first h.grown) (h.code (instruction (lit data_front) span checking ∷ []) (λ world env. Ok data_front) (λ known. true) 1 front)
           (λ world env. refl) (λ known r. r) (omega arith)
-          (light_as data_price (light_both (light_row (lit data_front) span checking (push_of data_front) (lit_weighs data_front)) h.light));
+          (light_as data_price (light_both (light_row (lit data_front) span checking (push_of data_front) (lit_weighs data_front)) h.light))
+          (let covers : Covers (span ∷ (own_spans a ++ [])) (span ∷ own_spans a) = covers_as (ap (λ l. span ∷ l) (append-nil (own_spans a))) in
+          spanned_both (spanned_row (lit data_front) span checking (steps.lit_spans (record { items = data_front })) (covers_first covers)) (spanned_in covers h.spans))
+          (read.gets_as (append-nil (item_names a)) (read.gets_both (read.gets_row (lit data_front) span checking (read.lit_gets (record { items = data_front }))) h.gets));
     }
   where
     data_price : Under (push_of data_front ⊕ sum (chunks_of a)) (form_price forms.HoldsData (priced a ∷ []))
@@ -411,7 +442,16 @@ form_sigs {old} {m0} {m1} {m2} {m3} {m4} {new} {checking} {span} {a} {b} {n} {m}
           (omega arith)
           (light_as (many_price n m a b fits hb.chunks)
           (light_then (kinds.CheckMulti n m) span checking (price 1 (1 + m)) (steps.check_multi_weighs n m)
-          (light_both (light_both (light_both (light_both (light_row (lit []) span checking (push_of []) (lit_weighs [])) ha.light) (light_row (lit nb) span checking (push_of nb) (lit_weighs nb))) hb.light) (light_row (lit mb) span checking (push_of mb) (lit_weighs mb)))));
+          (light_both (light_both (light_both (light_both (light_row (lit []) span checking (push_of []) (lit_weighs [])) ha.light) (light_row (lit nb) span checking (push_of nb) (lit_weighs nb))) hb.light) (light_row (lit mb) span checking (push_of mb) (lit_weighs mb)))))
+          (let covers : Covers (span ∷ (own_spans a ++ (own_spans b ++ []))) (span ∷ (own_spans a ++ own_spans b)) = covers_as (ap (λ l. span ∷ (own_spans a ++ l)) (append-nil (own_spans b))) in
+          let puts_of : (bytes : List ℕ) → SpannedBy (instruction (lit bytes) span checking ∷ []) checking (span ∷ (own_spans a ++ (own_spans b ++ []))) =
+          λ bytes. spanned_row (lit bytes) span checking (steps.lit_spans (record { items = bytes })) (covers_first covers) in
+          spanned_both (spanned_both (spanned_both (spanned_both (spanned_both (puts_of []) (spanned_in (covers_left (own_spans a) (own_spans b) (covers_rest covers)) ha.spans)) (puts_of nb))
+          (spanned_in (covers_right (own_spans a) (own_spans b) (covers_rest covers)) hb.spans)) (puts_of mb)) (spanned_row (kinds.CheckMulti n m) span checking (steps.check_multi_spans n m) (covers_first covers)))
+          (let read_none : (bytes : List ℕ) → Gets (instruction (lit bytes) span checking ∷ []) checking [] = λ bytes. read.gets_row (lit bytes) span checking (read.lit_gets (record { items = bytes })) in
+          read.gets_as (ap (λ l. item_names a ++ l) (append-nil (item_names b)))
+          (read.gets_then (kinds.CheckMulti n m) span (read.check_multi_gets n m)
+          (read.gets_more (read.gets_both (read.gets_more (read.gets_both (read_none []) ha.gets) (read_none nb)) hb.gets) (read_none mb))));
     }
 
 pub lowers_form_data : {old begun new : List SlotInstr} {checking span : Span} {a : TypedExpr} {args : List TypedExpr} → args ≡ (a ∷ []) → begun ≡ old ++ instruction (lit data_front) span checking ∷ []

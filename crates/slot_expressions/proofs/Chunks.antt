@@ -1,5 +1,5 @@
 -- Chunks of a script of data: a literal with its prefix, and any other.
-use Rattle.std.proofs.Common.{◌≡◌, ◌≤◌, ◌<◌, ℕ, ◌+◌, ◌*◌, Bool, true, false, List, [], ◌∷◌, ◌++◌, length, Result, Ok, Err, refl, sym, ap, ◌∙◌, subst, arith, append_assoc}
+use Rattle.std.proofs.Common.{◌≡◌, ◌≤◌, ◌<◌, ℕ, Bool, true, false, List, [], ◌∷◌, ◌++◌, length, Result, Ok, Err, refl, sym, ap, ◌∙◌, subst, arith, append_assoc}
 use Rattle.std.specs.Prelude.{Option, Some, None, nat_le, nat_lt, if◌then◌else◌}
 use Rattle.std.proofs.lemmas.Bool.Decides.{nat_tests}
 use Rattle.cash_base.specs.declared.fault.Cause.TheVariants.{Oversize}
@@ -19,21 +19,27 @@ use Rattle.type_tables.specs.declared.rules.CastEffect.TheVariants as effects
 use Rattle.type_tables.specs.Tables.{TypedExpr, cast_effect}
 use Rattle.form_tables.specs.Forms.{cast_result, pushed_chunk}
 use Rattle.source_meaning.specs.declared.outcome.Failure.{Failure}
-use Rattle.source_meaning.specs.Meaning.{Env, Value, One as GivenOne, applied, appended, at_span, element, kind_gives, value_of}
-use Rattle.source_meaning.specs.Runnable.{node_count, kind_count}
+use Rattle.source_meaning.specs.Meaning.{Env, applied, appended, at_span, element, kind_gives, value_of}
+use Rattle.source_meaning.specs.Runnable.{kind_count}
 use Rattle.source_meaning.proofs.Steps as source
 use Rattle.slot_code.specs.declared.slots.SlotInstr.{SlotInstr}
 use Rattle.slot_code.specs.declared.slots.SlotKind.TheVariants as kinds
 use Rattle.slot_code.proofs.Steps as steps
-use Rattle.slot_expressions.specs.Ready.{Known-names, any_name, is_element, is_ready, is_ready_kind, Ready, ReadyKind}
-use Rattle.slot_expressions.specs.Room.{Price, price, ◌⊕◌, one, push_of, other_chunk, chunk_price, cast_spelled, as_chunk, priced, price_of, spelled, spelled_at}
+use Rattle.slot_expressions.specs.Ready.{Known-names, any_name, is_element, is_ready, is_ready_kind, Ready}
+use Rattle.slot_expressions.specs.Room.{price, ◌⊕◌, one, push_of, other_chunk, chunk_price, cast_spelled, as_chunk, priced, price_of, spelled, spelled_at}
 use Rattle.slot_expressions.specs.Rows.{lit}
+use Rattle.slot_expressions.specs.Spans.{own_spans}
+use Rattle.slot_expressions.specs.Reads.{names_at}
+use Rattle.slot_expressions.proofs.NameSteps as naming
+use Rattle.slot_expressions.proofs.ReadRows as read
 use Rattle.slot_expressions.specs.Pieces.{Gives, Code, LowersElement, LowersChunk, IsSpelled, IsChunk, OtherChunk, keeps, leaves, instruction}
 use Rattle.slot_expressions.proofs.ReadySteps as ready
 use Rattle.slot_expressions.proofs.RoomSteps as room
+use Rattle.slot_expressions.proofs.Spanning.{Covers, covers_as, covers_first, covers_rest, spanned_in, spanned_both, spanned_row}
 use Rattle.slot_expressions.proofs.Lights.{under, light_as, light_row, light_then, lit_weighs}
 use Rattle.slot_expressions.proofs.Standing.{if_true, le_true}
-use Rattle.slot_expressions.proofs.Single.{and_left, and_intro, code_op2, code_of, code_as, code_most, code_ready, code_put, grown1}
+use Rattle.slot_expressions.proofs.Tests.{and_left, and_intro}
+use Rattle.slot_expressions.proofs.Single.{code_op2, code_of, code_as, code_most, code_ready, code_put, grown1}
 use Rattle.slot_expressions.proofs.Acts.{do2_acts, chunk_acts}
 use Rattle.slot_expressions.proofs.Readies.{whole_readies}
 use Rattle.slot_expressions.proofs.Lowered.{bytes_acts, bytes_stand, after}
@@ -54,6 +60,7 @@ hex_is_spelled {e} {bytes} is h =
       is = room.whole_spelled e ∙ ap spelled_at is ∙ room.hex_spelled bytes;
       gives = λ world env. element_is world env e (exprs.Hex bytes) is ∙ ap element (source.hex_gives world env bytes e.span) ∙ ap (λ o. element (applied e.span o)) (sized_fits bytes fits);
       some = omega (arith, source.whole_counted e, ap kind_count is, source.hex_counted bytes);
+      unread = naming.whole_named e ∙ ap names_at is ∙ naming.hex_named bytes;
     }
 
 pub spelled_hex : {e : TypedExpr} {bytes out : List ℕ} → e.kind ≡ exprs.Hex bytes → out ≡ bytes → Ready e → IsSpelled e out
@@ -65,6 +72,7 @@ text_is_spelled {e} {bytes} is h =
       is = room.whole_spelled e ∙ ap spelled_at is ∙ room.text_spelled bytes;
       gives = λ world env. element_is world env e (exprs.Text bytes) is ∙ ap element (source.text_gives world env bytes e.span) ∙ ap (λ o. element (applied e.span o)) (sized_fits bytes fits);
       some = omega (arith, source.whole_counted e, ap kind_count is, source.text_counted bytes);
+      unread = naming.whole_named e ∙ ap names_at is ∙ naming.text_named bytes;
     }
 
 pub spelled_text : {e : TypedExpr} {bytes out : List ℕ} → e.kind ≡ exprs.Text bytes → out ≡ bytes → Ready e → IsSpelled e out
@@ -98,6 +106,7 @@ kept_cast {e} {a} {to} None {bytes} is kept h =
           ∙ ap (λ o. element (element (value_of world env a) >>= λ x. applied e.span (cast_result o x))) keep
           ∙ left_so (element (value_of world env a)) e.span bytes (h.gives world env);
       some = omega (arith, source.whole_counted e, ap kind_count is, source.cast_counted to a);
+      unread = naming.whole_named e ∙ ap names_at is ∙ naming.cast_named to a ∙ h.unread;
     }
 
 pub spelled_cast : {e : TypedExpr} (a : TypedExpr) {x : TypedExpr} {to : Ty} (size : Option TypedExpr) {bytes : List ℕ} → e.kind ≡ exprs.Cast to a size → x ≡ a
@@ -150,6 +159,10 @@ lowers_chunk {old} {mid} {new} {checking} {span} {e} other h grown =
       code = λ begun v own most c. chunk_at begun (h.rows ++ i ∷ []) (append_assoc begun h.rows (i ∷ []))
           (code_op2 kinds.Chunk span (λ world x y. at_span span (result2 Cat x (pushed_chunk y))) (chunk_acts span checking) steps.chunk_stands c (code_of h));
       light = light_as (after _ _ other.pays) (light_then kinds.Chunk span checking (price 40 26) steps.chunk_weighs h.light);
+      spans =
+          let covers : Covers (span ∷ own_spans e) (span ∷ own_spans e) = covers_as refl in
+          spanned_both (spanned_in (covers_rest covers) h.spans) (spanned_row kinds.Chunk span checking steps.chunk_spans (covers_first covers));
+      gets = read.gets_then kinds.Chunk span read.chunk_gets h.gets;
     }
 
 chunk_same : (r s : Result (List ℕ) Failure) (span : Span) (bytes : List ℕ) → s ≡ Ok bytes
@@ -174,4 +187,8 @@ lowers_spelled {old} {mid} {new} {checking} {span} {e} {bytes} h first second =
           (code_as (λ world env. chunk_same (v world env) (element (value_of world env e)) span bytes (h.whole.gives world env))
           (code_op2 (kinds.Do2 Cat) span (λ world x y. at_span span (result2 Cat x y)) (do2_acts Cat span checking) (steps.do2_stands Cat) c put))));
       light = light_as (under pays) (light_then (kinds.Do2 Cat) span checking one (steps.do2_weighs Cat) (light_row (lit pushed) span checking (push_of pushed) (lit_weighs pushed)));
+      spans =
+          let covers : Covers (span ∷ own_spans e) (span ∷ own_spans e) = covers_as refl in
+          spanned_both (spanned_row (lit pushed) span checking (steps.lit_spans (record { items = pushed })) (covers_first covers)) (spanned_row (kinds.Do2 Cat) span checking (steps.do2_spans Cat) (covers_first covers));
+      gets = read.gets_as h.whole.unread (read.gets_then (kinds.Do2 Cat) span (read.do2_gets Cat) (read.gets_row (lit pushed) span checking (read.lit_gets (record { items = pushed }))));
     }

@@ -1,7 +1,12 @@
+pub mod Tests
 pub mod Puts
 pub mod Standing
 pub mod RoomSteps
+pub mod SpanSteps
 pub mod Lights
+pub mod Spanning
+pub mod NameSteps
+pub mod ReadRows
 pub mod Single
 pub mod Acts
 pub mod ReadySteps

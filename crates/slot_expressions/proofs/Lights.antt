@@ -1,5 +1,5 @@
 -- How the weights of rows add up.
-use Rattle.std.proofs.Common.{◌≡◌, ◌≤◌, ◌<◌, ◌==◌, ℕ, zero, suc, ℤ, pos, ◌+◌, Bool, true, false, List, [], ◌∷◌, ◌++◌, length, map, Result, Ok, Err, refl, sym, ap, ◌∙◌, subst, arith}
+use Rattle.std.proofs.Common.{◌≡◌, ◌≤◌, ◌<◌, ◌==◌, ℕ, zero, suc, ℤ, pos, Bool, true, false, List, [], ◌∷◌, ◌++◌, length, map, Ok, Err, refl, sym, ap, ◌∙◌, subst, arith}
 use Rattle.std.specs.Prelude.{if◌then◌else◌, nat_lt, nat_le, ◌&&◌}
 use Rattle.std.proofs.lemmas.Bool.Decides.{nat_tests}
 use Rattle.std.proofs.lemmas.List.{append-nil}
@@ -22,7 +22,7 @@ use Rattle.slot_code.specs.Weight.{Weight, Weighs, weight, together, costs, op_w
 use Rattle.slot_code.proofs.Steps as steps
 use Rattle.slot_expressions.specs.declared.expressions.Width.{Width}
 use Rattle.slot_expressions.specs.declared.expressions.Width.TheVariants as widths
-use Rattle.slot_expressions.specs.Room.{Price, price, ◌⊕◌, nothing, one, two, push_of, op1_price}
+use Rattle.slot_expressions.specs.Room.{Price, price, ◌⊕◌, nothing, one, push_of, op1_price}
 use Rattle.slot_expressions.specs.Pieces.{Light, instruction, unpaid}
 use Rattle.slot_expressions.specs.Rows.{lit, part_rows}
 

@@ -2,7 +2,6 @@
 use Rattle.std.proofs.Common.{◌≡◌, ◌≤◌, ℕ, ℤ, ◌+◌, ◌*◌, ◌==◌, Bool, true, false, List, [], ◌∷◌, ◌++◌, length, map, pos, Result, Ok, Err, refl, sym, ap, ◌∙◌, subst, arith, append_assoc}
 use Rattle.std.proofs.lemmas.List.{append-nil}
 use Rattle.std.specs.Prelude.{◌&&◌, Option, Some, None, if◌then◌else◌, unwrap_or, not}
-use Rattle.arrayvec.specs.ArrayVec.{ArrayVec}
 use Rattle.cash_base.specs.declared.fault.Cause.TheVariants.{NumberRange}
 use Rattle.cash_base.specs.declared.place.Span.{Span}
 use Rattle.cash_base.specs.declared.place.Slot.{Slot}
@@ -29,41 +28,47 @@ use Rattle.cash_tree.specs.declared.Callee.{Callee}
 use Rattle.cash_tree.specs.declared.Callee.TheVariants.{Known}
 use Rattle.cash_tree.specs.declared.ExprKind.{ExprKind}
 use Rattle.cash_tree.specs.declared.ExprKind.TheVariants as exprs
-use Rattle.cash_tree.specs.Nodes.{total}
+use Rattle.cash_tree.specs.Nodes.{joined, total}
+use Rattle.cash_tree.specs.Spans.{callee_spans}
 use Rattle.type_tables.specs.declared.rules.CastEffect.{CastEffect}
 use Rattle.type_tables.specs.declared.rules.CastEffect.TheVariants as effects
 use Rattle.type_tables.specs.Tables.{TypedExpr, cast_effect}
 use Rattle.form_tables.specs.declared.forms.BinaryForm.{BinaryForm}
 use Rattle.form_tables.specs.declared.forms.BinaryForm.TheVariants as binary
-use Rattle.form_tables.specs.declared.forms.CallForm.{CallForm}
 use Rattle.form_tables.specs.declared.forms.CallForm.TheVariants as forms
 use Rattle.form_tables.specs.declared.forms.Lock.{Lock}
 use Rattle.form_tables.specs.declared.forms.Lock.TheVariants as locks
-use Rattle.form_tables.specs.Forms.{unary_op, is_int, binary_form, binary_result, call_form, cast_result, lock_back, lock_front, verdict_result, pushed_chunk}
+use Rattle.form_tables.specs.Forms.{unary_op, is_int, binary_form, binary_result, call_form, cast_result, lock_back, lock_front, verdict_result}
 use Rattle.source_meaning.specs.declared.outcome.Failure.{Failure}
 use Rattle.source_meaning.specs.Meaning.{Env, Value, Given, One as GivenOne, Two as GivenTwo, applied, at_span, element, locked, form_value, call_value, kind_gives, value_of, node_of, left_of, right_of, part_at}
 use Rattle.source_meaning.specs.Runnable.{node_count, kind_count}
 use Rattle.source_meaning.proofs.Steps as source
 use Rattle.slot_code.specs.declared.slots.SlotInstr.{SlotInstr}
-use Rattle.slot_code.specs.declared.slots.SlotKind.{SlotKind}
 use Rattle.slot_code.specs.declared.slots.SlotKind.TheVariants as kinds
 use Rattle.slot_code.specs.Meaning.{State, state, act_of, run_of}
-use Rattle.slot_code.specs.Shape.{Operand, Shapes, puts, reads, works_on, splits, value as work, has, shapes_at}
-use Rattle.slot_code.specs.Weight.{costs, plain}
+use Rattle.slot_code.specs.Shape.{Operand, puts, reads, value as work, shapes_at}
 use Rattle.slot_code.proofs.Steps as steps
 use Rattle.slot_expressions.specs.declared.expressions.Width.{Width}
 use Rattle.slot_expressions.specs.declared.expressions.Width.TheVariants as widths
 use Rattle.slot_expressions.specs.Room.{Price, price, ◌⊕◌, nothing, one, two, push_of, op1_price, binary_price, cast_price, form_price, call_price, priced, price_of, price_at}
 use Rattle.slot_expressions.specs.Ready.{Known-names, any_name, is_cast, is_ready, is_ready_kind, form_ready, call_ready, ready_node, ReadyKind}
-use Rattle.slot_expressions.specs.Pieces.{Code, LowersValue, Lowers, LowersForm, LowersCall, LowersElement, LowersGiven, Puts, Stands, Begins, Light, instruction, in_scope, put_value, put_element, given_on, as_wide, size}
+use Rattle.slot_expressions.specs.Pieces.{Code, Lowers, LowersForm, LowersCall, LowersElement, LowersGiven, Stands, Light, instruction, in_scope, given_on, as_wide}
+use Rattle.slot_expressions.specs.Spans.{SpannedBy, own_spans, own_spans_at}
+use Rattle.slot_expressions.specs.Reads.{Gets, gets_at, named, names_in, names_at, call_names}
 use Rattle.slot_expressions.specs.Rows.{IsLiteral, lit, binary_rows, cast_rows, part_rows}
 use Rattle.slot_expressions.proofs.ReadySteps as ready
 use Rattle.slot_expressions.proofs.RoomSteps as room
+use Rattle.slot_expressions.proofs.SpanSteps as spanned
+use Rattle.slot_expressions.proofs.NameSteps as naming
+use Rattle.slot_expressions.proofs.ReadRows as rows
+use Rattle.slot_expressions.proofs.ReadRows.{gets_none, gets_as, gets_both, gets_more, gets_row}
+use Rattle.slot_expressions.proofs.Spanning.{Covers, covers_as, covers_then, covers_cons, covers_kind, covers_first, covers_rest, covers_left, covers_right, spanned_none, spanned_in, spanned_both, spanned_two, spanned_row, spanned_own}
 use Rattle.slot_expressions.proofs.Lights.{Under, under, light_as, light_both, light_row, light_then, light_part, op1_weighs, unary_price, lit_weighs, number_is, sized_is, truth_is}
 use Rattle.slot_expressions.proofs.Puts.{bind_bind, bind_two, at_span_then, run_append, run_one, puts_as, puts_both}
-use Rattle.slot_expressions.proofs.Standing.{stands_both, stands_most, stands_op, stands_put, stands_get, stands_split, begins_row, begins_more}
-use Rattle.slot_expressions.proofs.Single.{Acts0, and_left, and_right, and_intro, code_op1, code_op2, code_put, code_row, code_of, code_as, code_most, code_ready, lowers, lowers0, lowers1, lowers2, lowers3, grown1, grown2}
-use Rattle.slot_expressions.proofs.Acts.{row_done, lit_acts, get_acts, look0_acts, do1_acts, look_at_acts, do2_acts, check_sig_acts, chunk_acts, do3_acts, check_data_acts, keep_acts}
+use Rattle.slot_expressions.proofs.Standing.{stands_both, stands_most, stands_op, stands_get, stands_split, begins_more}
+use Rattle.slot_expressions.proofs.Tests.{and_left, and_right, and_intro}
+use Rattle.slot_expressions.proofs.Single.{Acts0, code_op1, code_op2, code_put, code_row, code_of, code_as, code_most, code_ready, lowers, lowers0, lowers1, lowers2, lowers3, grown1, grown2}
+use Rattle.slot_expressions.proofs.Acts.{row_done, lit_acts, get_acts, look0_acts, do1_acts, look_at_acts, do2_acts, check_sig_acts, do3_acts, check_data_acts, keep_acts}
 
 some_more : (n m : ℕ) → n ≡ m + 1 → m ≤ n
 some_more n m is = omega (arith, is)
@@ -78,12 +83,13 @@ bytes_stand bytes = steps.lit_stands (record { items = bytes })
 
 literal : {old new : List SlotInstr} {checking span : Span} {kind : ExprKind Slot Ty} {outcome : Outcome}
     → ((world : World) (env : Env) → kind_gives world env kind span ≡ applied span outcome) → 1 ≤ kind_count kind
-    → ((bytes : List ℕ) → outcome ≡ Ok bytes → price_at kind ≡ push_of bytes)
+    → ((bytes : List ℕ) → outcome ≡ Ok bytes → price_at kind ≡ push_of bytes) → own_spans_at kind ≡ [] → names_at kind ≡ []
     → IsLiteral old new outcome span checking → Lowers old new checking kind span widths.One
-literal {old} {new} {checking} {span} {kind} {outcome} gives some prices h = record {
+literal {old} {new} {checking} {span} {kind} {outcome} gives some prices alone unread h = record {
   lowered = lowers0 span (λ world env. kind_gives world env kind span) (λ known. is_ready_kind known kind) (kind_count kind)
       (lit h.bytes) (Some h.bytes) (λ world env. Ok h.bytes) (bytes_acts h.bytes span checking) (bytes_stand h.bytes)
-      (λ world env. gives world env ∙ ap (applied span) h.is) some (push_of h.bytes) (lit_weighs h.bytes) (under (prices h.bytes h.is)) h.grown;
+      (λ world env. gives world env ∙ ap (applied span) h.is) some (push_of h.bytes) (lit_weighs h.bytes) (under (prices h.bytes h.is))
+      (steps.lit_spans (record { items = h.bytes })) (covers_kind kind span alone) (rows.lit_gets (record { items = h.bytes })) unread h.grown;
 }
 
 pub lowers_int : {old new : List SlotInstr} {checking span : Span} {kind : ExprKind Slot Ty} {digits unit : ℕ} → kind ≡ exprs.Int digits unit
@@ -91,35 +97,40 @@ pub lowers_int : {old new : List SlotInstr} {checking span : Span} {kind : ExprK
 lowers_int {old} {new} {checking} {span} {kind} {digits} {unit} is h =
     literal (λ world env. ap (λ k. kind_gives world env k span) is ∙ source.int_gives world env digits unit span)
     (omega (arith, ap kind_count is ∙ source.int_counted digits unit))
-    (λ bytes spelled. ap price_at is ∙ room.int_priced digits unit ∙ ap push_of (number_is (pos (digits * unit)) bytes spelled)) h
+    (λ bytes spelled. ap price_at is ∙ room.int_priced digits unit ∙ ap push_of (number_is (pos (digits * unit)) bytes spelled)) (ap own_spans_at is ∙ spanned.int_spanned digits unit)
+    (ap names_at is ∙ naming.int_named digits unit) h
 
 pub lowers_bool : {old new : List SlotInstr} {checking span : Span} {kind : ExprKind Slot Ty} {b : Bool} → kind ≡ exprs.Bool b
     → IsLiteral old new (truth_element b) span checking → Lowers old new checking kind span widths.One
 lowers_bool {old} {new} {checking} {span} {kind} {b} is h =
     literal (λ world env. ap (λ k. kind_gives world env k span) is ∙ source.bool_gives world env b span)
     (omega (arith, ap kind_count is ∙ source.bool_counted b))
-    (λ bytes spelled. ap price_at is ∙ room.bool_priced b ∙ truth_is b bytes spelled) h
+    (λ bytes spelled. ap price_at is ∙ room.bool_priced b ∙ truth_is b bytes spelled) (ap own_spans_at is ∙ spanned.bool_spanned b)
+    (ap names_at is ∙ naming.bool_named b) h
 
 pub lowers_hex : {old new : List SlotInstr} {checking span : Span} {kind : ExprKind Slot Ty} {bytes : List ℕ} → kind ≡ exprs.Hex bytes
     → IsLiteral old new (sized bytes) span checking → Lowers old new checking kind span widths.One
 lowers_hex {old} {new} {checking} {span} {kind} {bytes} is h =
     literal (λ world env. ap (λ k. kind_gives world env k span) is ∙ source.hex_gives world env bytes span)
     (omega (arith, ap kind_count is ∙ source.hex_counted bytes))
-    (λ out spelled. ap price_at is ∙ room.hex_priced bytes ∙ ap push_of (sized_is bytes out spelled)) h
+    (λ out spelled. ap price_at is ∙ room.hex_priced bytes ∙ ap push_of (sized_is bytes out spelled)) (ap own_spans_at is ∙ spanned.hex_spanned bytes)
+    (ap names_at is ∙ naming.hex_named bytes) h
 
 pub lowers_text : {old new : List SlotInstr} {checking span : Span} {kind : ExprKind Slot Ty} {bytes : List ℕ} → kind ≡ exprs.Text bytes
     → IsLiteral old new (sized bytes) span checking → Lowers old new checking kind span widths.One
 lowers_text {old} {new} {checking} {span} {kind} {bytes} is h =
     literal (λ world env. ap (λ k. kind_gives world env k span) is ∙ source.text_gives world env bytes span)
     (omega (arith, ap kind_count is ∙ source.text_counted bytes))
-    (λ out spelled. ap price_at is ∙ room.text_priced bytes ∙ ap push_of (sized_is bytes out spelled)) h
+    (λ out spelled. ap price_at is ∙ room.text_priced bytes ∙ ap push_of (sized_is bytes out spelled)) (ap own_spans_at is ∙ spanned.text_spanned bytes)
+    (ap names_at is ∙ naming.text_named bytes) h
 
 pub lowers_date : {old new : List SlotInstr} {checking span : Span} {kind : ExprKind Slot Ty} {seconds : ℤ} → kind ≡ exprs.Date seconds
     → IsLiteral old new (number_element seconds) span checking → Lowers old new checking kind span widths.One
 lowers_date {old} {new} {checking} {span} {kind} {seconds} is h =
     literal (λ world env. ap (λ k. kind_gives world env k span) is ∙ source.date_gives world env seconds span)
     (omega (arith, ap kind_count is ∙ source.date_counted seconds))
-    (λ bytes spelled. ap price_at is ∙ room.date_priced seconds ∙ ap push_of (number_is seconds bytes spelled)) h
+    (λ bytes spelled. ap price_at is ∙ room.date_priced seconds ∙ ap push_of (number_is seconds bytes spelled)) (ap own_spans_at is ∙ spanned.date_spanned seconds)
+    (ap names_at is ∙ naming.date_named seconds) h
 
 -- ---- names, and what the transaction has
 
@@ -132,7 +143,9 @@ lowers_name {old} {new} {checking} {span} {kind} {slot} is grown = record {
       (λ world env. ap (λ k. kind_gives world env k span) is ∙ source.name_gives world env slot span)
       (λ known r. sym (ap (is_ready_kind known) is ∙ ready.name_is_ready known slot) ∙ r)
       (omega (arith, ap kind_count is ∙ source.name_counted slot))
-      (light_as (under (ap price_at is ∙ room.name_priced slot)) (light_row (kinds.Get slot) span checking (price 4 1) (steps.get_weighs slot)));
+      (light_as (under (ap price_at is ∙ room.name_priced slot)) (light_row (kinds.Get slot) span checking (price 4 1) (steps.get_weighs slot)))
+      (spanned_row (kinds.Get slot) span checking (steps.get_spans slot) (covers_kind kind span (ap own_spans_at is ∙ spanned.name_spanned slot)))
+      (gets_as (ap names_at is ∙ naming.name_named slot) (gets_row (kinds.Get slot) span checking (rows.get_gets slot)));
 }
 
 pub lowers_look0 : {old new : List SlotInstr} {checking span : Span} {kind : ExprKind Slot Ty} {what : Look0} → kind ≡ exprs.Look0 what
@@ -141,7 +154,8 @@ lowers_look0 {old} {new} {checking} {span} {kind} {what} is grown = record {
   lowered = lowers0 span (λ world env. kind_gives world env kind span) (λ known. is_ready_kind known kind) (kind_count kind)
       (kinds.Look0 what) None (λ world env. at_span span (context_value world.context what world.redeem)) (look0_acts what span checking) (steps.look0_stands what)
       (λ world env. ap (λ k. kind_gives world env k span) is ∙ source.look0_gives world env what span)
-      (omega (arith, ap kind_count is ∙ source.look0_counted what)) one (steps.look0_weighs what) (under (ap price_at is ∙ room.look0_priced what)) grown;
+      (omega (arith, ap kind_count is ∙ source.look0_counted what)) one (steps.look0_weighs what) (under (ap price_at is ∙ room.look0_priced what))
+      (steps.look0_spans what) (covers_kind kind span (ap own_spans_at is ∙ spanned.look0_spanned what)) (rows.look0_gets what) (ap names_at is ∙ naming.look0_named what) grown;
 }
 
 -- ---- operations
@@ -160,7 +174,8 @@ lowers_unary {old} {mid} {new} {checking} {span} {kind} {op} {a} is h grown = re
       (kinds.Do1 (unary_op op)) (λ world x. at_span span (result1 (unary_op op) x)) (do1_acts (unary_op op) span checking) (steps.do1_stands (unary_op op)) (op1_price (unary_op op)) (op1_weighs (unary_op op))
       (λ world env. ap (λ k. kind_gives world env k span) is ∙ source.unary_gives world env op a span)
       (λ known r. sym (ap (is_ready_kind known) is ∙ ready.unary_is_ready known op a) ∙ r)
-      (some_more (kind_count kind) (node_count a) (ap kind_count is ∙ source.unary_counted op a)) (after _ _ (ap price_at is ∙ room.unary_priced op a ∙ ap (λ c. c ⊕ price_of a) (sym (unary_price op)))) h grown;
+      (some_more (kind_count kind) (node_count a) (ap kind_count is ∙ source.unary_counted op a)) (after _ _ (ap price_at is ∙ room.unary_priced op a ∙ ap (λ c. c ⊕ price_of a) (sym (unary_price op))))
+      (steps.do1_spans (unary_op op)) (covers_kind kind span (ap own_spans_at is ∙ spanned.unary_spanned op a)) (rows.do1_gets (unary_op op)) (ap names_at is ∙ naming.unary_named op a) h grown;
 }
 
 pub lowers_length : {old mid new : List SlotInstr} {checking span : Span} {kind : ExprKind Slot Ty} {a : TypedExpr} → kind ≡ exprs.Length a
@@ -170,7 +185,8 @@ lowers_length {old} {mid} {new} {checking} {span} {kind} {a} is h grown = record
       (kinds.Do1 Size) (λ world x. at_span span (result1 Size x)) (do1_acts Size span checking) (steps.do1_stands Size) two (steps.do1_weighs Size)
       (λ world env. ap (λ k. kind_gives world env k span) is ∙ source.length_gives world env a span)
       (λ known r. sym (ap (is_ready_kind known) is ∙ ready.length_is_ready known a) ∙ r)
-      (some_more (kind_count kind) (node_count a) (ap kind_count is ∙ source.length_counted a)) (after _ _ (ap price_at is ∙ room.length_priced a)) h grown;
+      (some_more (kind_count kind) (node_count a) (ap kind_count is ∙ source.length_counted a)) (after _ _ (ap price_at is ∙ room.length_priced a))
+      (steps.do1_spans Size) (covers_kind kind span (ap own_spans_at is ∙ spanned.length_spanned a)) (rows.do1_gets Size) (ap names_at is ∙ naming.length_named a) h grown;
 }
 
 pub lowers_reverse : {old mid new : List SlotInstr} {checking span : Span} {kind : ExprKind Slot Ty} {a : TypedExpr} → kind ≡ exprs.Reverse a
@@ -180,7 +196,8 @@ lowers_reverse {old} {mid} {new} {checking} {span} {kind} {a} is h grown = recor
       (kinds.Do1 Reverse) (λ world x. at_span span (result1 Reverse x)) (do1_acts Reverse span checking) (steps.do1_stands Reverse) one (steps.do1_weighs Reverse)
       (λ world env. ap (λ k. kind_gives world env k span) is ∙ source.reverse_gives world env a span)
       (λ known r. sym (ap (is_ready_kind known) is ∙ ready.reverse_is_ready known a) ∙ r)
-      (some_more (kind_count kind) (node_count a) (ap kind_count is ∙ source.reverse_counted a)) (after _ _ (ap price_at is ∙ room.reverse_priced a)) h grown;
+      (some_more (kind_count kind) (node_count a) (ap kind_count is ∙ source.reverse_counted a)) (after _ _ (ap price_at is ∙ room.reverse_priced a))
+      (steps.do1_spans Reverse) (covers_kind kind span (ap own_spans_at is ∙ spanned.reverse_spanned a)) (rows.do1_gets Reverse) (ap names_at is ∙ naming.reverse_named a) h grown;
 }
 
 pub lowers_look_at : {old mid new : List SlotInstr} {checking span : Span} {kind : ExprKind Slot Ty} {what : LookAt} {a : TypedExpr} → kind ≡ exprs.LookAt what a
@@ -190,7 +207,8 @@ lowers_look_at {old} {mid} {new} {checking} {span} {kind} {what} {a} is h grown 
       (kinds.LookAt what) (λ world x. at_span span (indexed_value world.context what x)) (look_at_acts what span checking) (steps.look_at_stands what) one (steps.look_at_weighs what)
       (λ world env. ap (λ k. kind_gives world env k span) is ∙ source.look_at_gives world env what a span)
       (λ known r. sym (ap (is_ready_kind known) is ∙ ready.look_at_is_ready known what a) ∙ r)
-      (some_more (kind_count kind) (node_count a) (ap kind_count is ∙ source.look_at_counted what a)) (after _ _ (ap price_at is ∙ room.look_at_priced what a)) h grown;
+      (some_more (kind_count kind) (node_count a) (ap kind_count is ∙ source.look_at_counted what a)) (after _ _ (ap price_at is ∙ room.look_at_priced what a))
+      (steps.look_at_spans what) (covers_kind kind span (ap own_spans_at is ∙ spanned.look_at_spanned what a)) (rows.look_at_gets what) (ap names_at is ∙ naming.look_at_named what a) h grown;
 }
 
 -- an operator with two sides, and a Not behind it where it has one
@@ -221,6 +239,15 @@ binary_light (binary.Is op) span checking h = light_then (kinds.Do2 op) span che
 binary_light (binary.IsNot op) span checking h =
     light_as (record { bytes = omega arith; ops = omega arith }) (light_both h (light_both (light_row (kinds.Do2 op) span checking one (steps.do2_weighs op)) (light_row (kinds.Do1 Not) span checking one (steps.do1_weighs Not))))
 
+binary_spanned : {a : List SlotInstr} {own : List Span} (form : BinaryForm) (span checking : Span) → Covers own (span ∷ []) → SpannedBy a checking own → SpannedBy (a ++ binary_rows form span checking) checking own
+binary_spanned (binary.Is op) span checking covers h = spanned_both h (spanned_row (kinds.Do2 op) span checking (steps.do2_spans op) covers)
+binary_spanned (binary.IsNot op) span checking covers h =
+    spanned_both h (spanned_both (spanned_row (kinds.Do2 op) span checking (steps.do2_spans op) covers) (spanned_row (kinds.Do1 Not) span checking (steps.do1_spans Not) covers))
+
+binary_gets : {a : List SlotInstr} {names : List Slot} (form : BinaryForm) (span checking : Span) → Gets a checking names → Gets (a ++ binary_rows form span checking) checking names
+binary_gets (binary.Is op) span checking h = gets_more h (gets_row (kinds.Do2 op) span checking (rows.do2_gets op))
+binary_gets (binary.IsNot op) span checking h = gets_more h (gets_both (gets_row (kinds.Do2 op) span checking (rows.do2_gets op)) (gets_row (kinds.Do1 Not) span checking (rows.do1_gets Not)))
+
 pub lowers_binary : {old mid far new : List SlotInstr} {checking span : Span} {kind : ExprKind Slot Ty} {op : BinaryOp} {a b : TypedExpr} → kind ≡ exprs.Binary op a b
     → LowersElement old mid checking a → LowersElement mid far checking b → new ≡ far ++ binary_rows (binary_form (is_int a.ty) op) span checking
     → Lowers old new checking kind span widths.One
@@ -232,7 +259,9 @@ lowers_binary {old} {mid} {far} {new} {checking} {span} {kind} {op} {a} {b} is h
           ∙ bind_two (element (value_of world env a)) (element (value_of world env b)) (λ x y. at_span span (binary_result form x y)) (λ e. Ok (GivenOne e)))
           (λ known r. sym (ap (is_ready_kind known) is ∙ ready.binary_is_ready known op a b) ∙ r)
           (omega (arith, ap kind_count is ∙ source.binary_counted op a b))
-          (light_as (after_both _ _ _ (ap price_at is ∙ room.binary_priced op a b)) (binary_light form span checking (light_both ha.light hb.light)));
+          (light_as (after_both _ _ _ (ap price_at is ∙ room.binary_priced op a b)) (binary_light form span checking (light_both ha.light hb.light)))
+          (let covers = covers_kind kind span (ap own_spans_at is ∙ spanned.binary_spanned op a b) in binary_spanned form span checking (covers_first covers) (spanned_two covers ha.spans hb.spans))
+          (gets_as (ap names_at is ∙ naming.binary_named op a b) (binary_gets form span checking (gets_both ha.gets hb.gets)));
     }
 
 -- of a value that a box holds
@@ -248,7 +277,8 @@ lowers_sized_cast {old} {mid} {far} {new} {checking} {span} {kind} {to} {a} {b} 
           (kinds.Do2 Pad) (λ world x y. at_span span (result2 Pad x y)) (do2_acts Pad span checking) (steps.do2_stands Pad) one (steps.do2_weighs Pad)
           (λ world env. ap (λ k. kind_gives world env k span) is ∙ source.sized_cast_gives world env to a b span)
           (λ known r. sym (ap (is_ready_kind known) is ∙ ready.sized_cast_is_ready known to a b) ∙ r)
-          (some_more (kind_count kind) (node_count a + node_count b) (ap kind_count is ∙ source.sized_cast_counted to a b)) (after_both _ _ _ (ap price_at is ∙ room.sized_cast_priced to a b)) ha hb grown;
+          (some_more (kind_count kind) (node_count a + node_count b) (ap kind_count is ∙ source.sized_cast_counted to a b)) (after_both _ _ _ (ap price_at is ∙ room.sized_cast_priced to a b))
+          (steps.do2_spans Pad) (covers_kind kind span (ap own_spans_at is ∙ spanned.sized_cast_spanned to a b)) (rows.do2_gets Pad) (ap names_at is ∙ naming.sized_cast_named to a b) ha hb grown;
     }
 
 -- a cast without a size
@@ -289,6 +319,24 @@ cast_light (Some (effects.Pad n)) span checking h =
 cast_light (Some effects.PadToSize) span checking h = none_light h
 cast_light None span checking h = none_light h
 
+cast_spanned : {a : List SlotInstr} {own : List Span} (effect : Option CastEffect) (span checking : Span) → Covers own (span ∷ []) → SpannedBy a checking own → SpannedBy (a ++ cast_rows effect span checking) checking own
+cast_spanned (Some effects.NonZero) span checking covers h = spanned_both h (spanned_row (kinds.Do1 NonZero) span checking (steps.do1_spans NonZero) covers)
+cast_spanned (Some effects.ToNumber) span checking covers h = spanned_both h (spanned_row (kinds.Do1 ToNumber) span checking (steps.do1_spans ToNumber) covers)
+cast_spanned (Some effects.Keep) span checking covers h = spanned_both h spanned_none
+cast_spanned (Some (effects.Pad n)) span checking covers h =
+    spanned_both h (spanned_both (spanned_row (lit (minimal_bytes (pos n))) span checking (steps.lit_spans (record { items = minimal_bytes (pos n) })) covers) (spanned_row (kinds.Do2 Pad) span checking (steps.do2_spans Pad) covers))
+cast_spanned (Some effects.PadToSize) span checking covers h = spanned_both h spanned_none
+cast_spanned None span checking covers h = spanned_both h spanned_none
+
+cast_gets : {a : List SlotInstr} {names : List Slot} (effect : Option CastEffect) (span checking : Span) → Gets a checking names → Gets (a ++ cast_rows effect span checking) checking names
+cast_gets (Some effects.NonZero) span checking h = gets_more h (gets_row (kinds.Do1 NonZero) span checking (rows.do1_gets NonZero))
+cast_gets (Some effects.ToNumber) span checking h = gets_more h (gets_row (kinds.Do1 ToNumber) span checking (rows.do1_gets ToNumber))
+cast_gets (Some effects.Keep) span checking h = gets_more h gets_none
+cast_gets (Some (effects.Pad n)) span checking h =
+    gets_more h (gets_both (gets_row (lit (minimal_bytes (pos n))) span checking (rows.lit_gets (record { items = minimal_bytes (pos n) }))) (gets_row (kinds.Do2 Pad) span checking (rows.do2_gets Pad)))
+cast_gets (Some effects.PadToSize) span checking h = gets_more h gets_none
+cast_gets None span checking h = gets_more h gets_none
+
 pub lowers_cast : {old mid new : List SlotInstr} {checking span : Span} {kind : ExprKind Slot Ty} {to : Ty} {a : TypedExpr} {size : Option TypedExpr} → kind ≡ exprs.Cast to a size → size ≡ None
     → ReadyKind kind
     → LowersElement old mid checking a → new ≡ mid ++ cast_rows (cast_effect to a.ty) span checking → Lowers old new checking kind span widths.One
@@ -302,7 +350,10 @@ lowers_cast {old} {mid} {new} {checking} {span} {kind} {to} {a} cast sized whole
           ∙ bind_bind (element (value_of world env a)) (λ x. at_span span (cast_result effect x)) (λ e. Ok (GivenOne e)))
           (λ known r. and_left (is_ready known a) (is_cast effect) (sym (ap (is_ready_kind known) is ∙ ready.cast_is_ready known to a) ∙ r))
           (omega (arith, ap kind_count is ∙ source.cast_counted to a))
-          (light_as (after _ _ (ap price_at is ∙ room.cast_priced to a)) (cast_light effect span checking h.light));
+          (light_as (after _ _ (ap price_at is ∙ room.cast_priced to a)) (cast_light effect span checking h.light))
+          (let covers = covers_kind kind span (ap own_spans_at is ∙ spanned.cast_spanned to a) in
+          cast_spanned effect span checking (covers_first covers) (spanned_in (covers_left (own_spans a) [] (covers_rest covers)) h.spans))
+          (gets_as (ap names_at is ∙ naming.cast_named to a) (cast_gets effect span checking h.gets));
     }
 
 -- ---- both parts of a split, and one of them
@@ -366,6 +417,10 @@ lowers_split {old} {mid} {far} {new} {checking} {span} {kind} {a} {b} is ha hb g
             (stands_split kinds.Split span steps.split_stands
             (stands_both (ha.stands slots (and_left (is_ready (in_scope slots) a) (is_ready (in_scope slots) b) both)) (hb.stands slots (and_right (is_ready (in_scope slots) a) (is_ready (in_scope slots) b) both))));
         light = split_light (price_of a) (price_of b) (ap price_at is ∙ room.split_priced a b) (light_then kinds.Split span checking one steps.split_weighs (light_both ha.light hb.light));
+        spans =
+            let covers = covers_kind kind span (ap own_spans_at is ∙ spanned.split_spanned a b) in
+            spanned_both (spanned_two covers ha.spans hb.spans) (spanned_row kinds.Split span checking steps.split_spans (covers_first covers));
+        gets = gets_as (ap names_at is ∙ naming.split_named a b) (rows.gets_then kinds.Split span rows.split_gets (gets_both ha.gets hb.gets));
       };
     }
 
@@ -418,6 +473,19 @@ part_code {old} {mid} {checking} {span} {kind} widths.Two right doing h =
       stands = λ slots r. stands_op (kinds.Keep right) doing 2 (steps.keep_stands right) h.lowered.count (omega arith) (h.lowered.stands slots r);
     }
 
+keeps_none : (right : Bool) → gets_at (kinds.Keep right) ≡ Some []
+keeps_none right = rows.keep_gets right
+
+-- the choice of a part, where one of these spans or the checking one is done
+part_spanned : {rows : List SlotInstr} {own : List Span} (width : Width) (right : Bool) (doing checking : Span) → SpannedBy (instruction (kinds.Keep right) doing checking ∷ []) checking own → SpannedBy rows checking own
+    → SpannedBy (rows ++ part_rows width right doing checking) checking own
+part_spanned widths.One right doing checking row h = spanned_both h spanned_none
+part_spanned widths.Two right doing checking row h = spanned_both h row
+
+part_gets : {rows : List SlotInstr} {names : List Slot} (width : Width) (right : Bool) (doing checking : Span) → Gets rows checking names → Gets (rows ++ part_rows width right doing checking) checking names
+part_gets widths.One right doing checking h = gets_more h gets_none
+part_gets widths.Two right doing checking h = gets_more h (gets_row (kinds.Keep right) doing checking (keeps_none right))
+
 pub lowers_element : {old mid new : List SlotInstr} {checking : Span} {e : TypedExpr} {width : Width} → LowersGiven old mid checking e width
     → new ≡ mid ++ part_rows width false checking checking → LowersElement old new checking e
 lowers_element {old} {mid} {new} {checking} {e} {width} h grown =
@@ -429,6 +497,8 @@ lowers_element {old} {mid} {new} {checking} {e} {width} h grown =
       top = code.top;
       stands = λ slots r. stands_most (omega (arith, source.whole_counted e)) (code.stands slots (sym (ready.whole_ready (in_scope slots) e) ∙ r));
       light = light_as (under (room.whole_priced e)) (light_part width false checking checking h.lowered.lowered.light);
+      spans = spanned_in (covers_as (spanned.whole_spanned e)) (part_spanned width false checking checking (spanned_own (kinds.Keep false) checking (steps.keep_spans false)) h.lowered.lowered.spans);
+      gets = gets_as (naming.whole_named e) (part_gets width false checking checking h.lowered.lowered.gets);
     }
 
 part_is : (number : ℕ) (b : Bool) (given : Given) → (number == 0) ≡ b → part_of (not b) given ≡ part_at number given
@@ -452,7 +522,11 @@ lowers_index {old} {mid} {new} {checking} {span} {kind} {a} {number} {width} is 
       ∙ index_is number (kind_gives world env a.kind a.span))
       (λ known r. sym (ap (is_ready_kind known) is ∙ ready.index_is_ready known a number ∙ ready.whole_ready known a) ∙ r)
       (omega (arith, ap kind_count is ∙ source.index_counted a number, source.whole_counted a))
-      (light_as (under (ap price_at is ∙ room.index_priced a number ∙ room.whole_priced a)) (light_part width (not (number == 0)) span checking h.lowered.lowered.light));
+      (light_as (under (ap price_at is ∙ room.index_priced a number ∙ room.whole_priced a)) (light_part width (not (number == 0)) span checking h.lowered.lowered.light))
+      (let covers = covers_kind kind span (ap own_spans_at is ∙ spanned.index_spanned a number) in
+      part_spanned width (not (number == 0)) span checking (spanned_row (kinds.Keep (not (number == 0))) span checking (steps.keep_spans (not (number == 0))) (covers_first covers))
+      (spanned_in (covers_then (covers_rest covers) (covers_as (spanned.whole_spanned a))) h.lowered.lowered.spans))
+      (gets_as (ap names_at is ∙ naming.index_named a number ∙ naming.whole_named a) (part_gets width (not (number == 0)) span checking h.lowered.lowered.gets));
 }
 
 -- ---- functions and instantiations
@@ -462,7 +536,8 @@ form_one : {old mid new : List SlotInstr} {checking span : Span} {op : Op1} {a :
 form_one {old} {mid} {new} {checking} {span} {op} {a} h grown = record {
   lowered = lowers1 span (λ world env. form_value world span (forms.One op) (node_of world env a ∷ [])) (λ known. form_ready (forms.One op) (ready_node known a ∷ [])) (node_count a + 0 + 1)
       (kinds.Do1 op) (λ world x. at_span span (result1 op x)) (do1_acts op span checking) (steps.do1_stands op) (op1_price op) (op1_weighs op)
-      (λ world env. refl) (λ known r. r) (omega arith) (record { bytes = omega arith; ops = omega arith }) h grown;
+      (λ world env. refl) (λ known r. r) (omega arith) (record { bytes = omega arith; ops = omega arith })
+      (steps.do1_spans op) (covers_as (ap (λ l. span ∷ l) (append-nil (own_spans a)))) (rows.do1_gets op) (append-nil (names_in a)) h grown;
 }
 
 form_two : {old mid far new : List SlotInstr} {checking span : Span} {op : Op2} {a b : TypedExpr} → LowersElement old mid checking a → LowersElement mid far checking b
@@ -470,7 +545,8 @@ form_two : {old mid far new : List SlotInstr} {checking span : Span} {op : Op2} 
 form_two {old} {mid} {far} {new} {checking} {span} {op} {a} {b} ha hb grown = record {
   lowered = lowers2 span (λ world env. form_value world span (forms.Two op) (node_of world env a ∷ node_of world env b ∷ [])) (λ known. form_ready (forms.Two op) (ready_node known a ∷ ready_node known b ∷ [])) (node_count a + (node_count b + 0) + 1)
       (kinds.Do2 op) (λ world x y. at_span span (result2 op x y)) (do2_acts op span checking) (steps.do2_stands op) one (steps.do2_weighs op)
-      (λ world env. refl) (λ known r. r) (omega arith) (record { bytes = omega arith; ops = omega arith }) ha hb grown;
+      (λ world env. refl) (λ known r. r) (omega arith) (record { bytes = omega arith; ops = omega arith })
+      (steps.do2_spans op) (covers_as (ap (λ l. span ∷ (own_spans a ++ l)) (append-nil (own_spans b)))) (rows.do2_gets op) (ap (λ l. names_in a ++ l) (append-nil (names_in b))) ha hb grown;
 }
 
 form_sig : {old mid far new : List SlotInstr} {checking span : Span} {a b : TypedExpr} → LowersElement old mid checking a → LowersElement mid far checking b
@@ -478,7 +554,8 @@ form_sig : {old mid far new : List SlotInstr} {checking span : Span} {a b : Type
 form_sig {old} {mid} {far} {new} {checking} {span} {a} {b} ha hb grown = record {
   lowered = lowers2 span (λ world env. form_value world span forms.CheckSig (node_of world env a ∷ node_of world env b ∷ [])) (λ known. form_ready forms.CheckSig (ready_node known a ∷ ready_node known b ∷ [])) (node_count a + (node_count b + 0) + 1)
       kinds.CheckSig (λ world x y. at_span span (verdict_result (single_verdict world.verdicts Single x y []))) (check_sig_acts span checking) steps.check_sig_stands one steps.check_sig_weighs
-      (λ world env. refl) (λ known r. r) (omega arith) (record { bytes = omega arith; ops = omega arith }) ha hb grown;
+      (λ world env. refl) (λ known r. r) (omega arith) (record { bytes = omega arith; ops = omega arith })
+      (steps.check_sig_spans) (covers_as (ap (λ l. span ∷ (own_spans a ++ l)) (append-nil (own_spans b)))) rows.check_sig_gets (ap (λ l. names_in a ++ l) (append-nil (names_in b))) ha hb grown;
 }
 
 form_three : {old mid far next new : List SlotInstr} {checking span : Span} {op : Op3} {a b c : TypedExpr} → LowersElement old mid checking a → LowersElement mid far checking b → LowersElement far next checking c
@@ -486,7 +563,8 @@ form_three : {old mid far next new : List SlotInstr} {checking span : Span} {op 
 form_three {old} {mid} {far} {next} {new} {checking} {span} {op} {a} {b} {c} ha hb hc grown = record {
   lowered = lowers3 span (λ world env. form_value world span (forms.Three op) (node_of world env a ∷ node_of world env b ∷ node_of world env c ∷ [])) (λ known. form_ready (forms.Three op) (ready_node known a ∷ ready_node known b ∷ ready_node known c ∷ [])) (node_count a + (node_count b + (node_count c + 0)) + 1)
       (kinds.Do3 op) (λ world x y z. at_span span (result3 op x y z)) (do3_acts op span checking) (steps.do3_stands op) one (steps.do3_weighs op)
-      (λ world env. refl) (λ known r. r) (omega arith) (record { bytes = omega arith; ops = omega arith }) ha hb hc grown;
+      (λ world env. refl) (λ known r. r) (omega arith) (record { bytes = omega arith; ops = omega arith })
+      (steps.do3_spans op) (covers_as (ap (λ l. span ∷ (own_spans a ++ (own_spans b ++ l))) (append-nil (own_spans c)) ∙ ap (λ l. span ∷ l) (sym (append_assoc (own_spans a) (own_spans b) (own_spans c))))) (rows.do3_gets op) (ap (λ l. names_in a ++ (names_in b ++ l)) (append-nil (names_in c)) ∙ sym (append_assoc (names_in a) (names_in b) (names_in c))) ha hb hc grown;
 }
 
 form_data_sig : {old mid far next new : List SlotInstr} {checking span : Span} {a b c : TypedExpr} → LowersElement old mid checking a → LowersElement mid far checking b → LowersElement far next checking c
@@ -494,7 +572,8 @@ form_data_sig : {old mid far next new : List SlotInstr} {checking span : Span} {
 form_data_sig {old} {mid} {far} {next} {new} {checking} {span} {a} {b} {c} ha hb hc grown = record {
   lowered = lowers3 span (λ world env. form_value world span forms.CheckData (node_of world env a ∷ node_of world env b ∷ node_of world env c ∷ [])) (λ known. form_ready forms.CheckData (ready_node known a ∷ ready_node known b ∷ ready_node known c ∷ [])) (node_count a + (node_count b + (node_count c + 0)) + 1)
       kinds.CheckData (λ world x y z. at_span span (verdict_result (single_verdict world.verdicts DataSig x z y))) (check_data_acts span checking) steps.check_data_stands one steps.check_data_weighs
-      (λ world env. refl) (λ known r. r) (omega arith) (record { bytes = omega arith; ops = omega arith }) ha hb hc grown;
+      (λ world env. refl) (λ known r. r) (omega arith) (record { bytes = omega arith; ops = omega arith })
+      (steps.check_data_spans) (covers_as (ap (λ l. span ∷ (own_spans a ++ (own_spans b ++ l))) (append-nil (own_spans c)) ∙ ap (λ l. span ∷ l) (sym (append_assoc (own_spans a) (own_spans b) (own_spans c))))) rows.check_data_gets (ap (λ l. names_in a ++ (names_in b ++ l)) (append-nil (names_in c)) ∙ sym (append_assoc (names_in a) (names_in b) (names_in c))) ha hb hc grown;
 }
 
 lock_is : (r : Result (List ℕ) Failure) (span : Span) (lock : Lock)
@@ -526,7 +605,16 @@ form_lock {old} {begun} {mid} {far} {next} {new} {checking} {span} {lock} {a} fi
           (light_as (lock_price lock a)
           (light_then (kinds.Do2 Cat) span checking one (steps.do2_weighs Cat) (light_both (light_then (kinds.Do2 Cat) span checking one (steps.do2_weighs Cat)
           (light_both (light_row (lit (lock_front lock)) span checking (push_of (lock_front lock)) (lit_weighs (lock_front lock))) h.light))
-          (light_row (lit (lock_back lock)) span checking (push_of (lock_back lock)) (lit_weighs (lock_back lock))))));
+          (light_row (lit (lock_back lock)) span checking (push_of (lock_back lock)) (lit_weighs (lock_back lock))))))
+          (let covers : Covers (span ∷ (own_spans a ++ [])) (span ∷ own_spans a) = covers_as (ap (λ l. span ∷ l) (append-nil (own_spans a))) in
+          let joins = spanned_row (kinds.Do2 Cat) span checking (steps.do2_spans Cat) (covers_first covers) in
+          spanned_both (spanned_both (spanned_both (spanned_both
+          (spanned_row (lit (lock_front lock)) span checking (steps.lit_spans (record { items = lock_front lock })) (covers_first covers)) (spanned_in (covers_rest covers) h.spans)) joins)
+          (spanned_row (lit (lock_back lock)) span checking (steps.lit_spans (record { items = lock_back lock })) (covers_first covers))) joins)
+          (let joined_more = gets_row (kinds.Do2 Cat) span checking (rows.do2_gets Cat) in
+          gets_as (append-nil (names_in a))
+          (gets_more (gets_more (gets_more (gets_both (gets_row (lit (lock_front lock)) span checking (rows.lit_gets (record { items = lock_front lock }))) h.gets) joined_more)
+          (gets_row (lit (lock_back lock)) span checking (rows.lit_gets (record { items = lock_back lock })))) joined_more));
     }
 
 pub lowers_form_one : {old mid new : List SlotInstr} {checking span : Span} {op : Op1} {a : TypedExpr} {args : List TypedExpr} → args ≡ (a ∷ []) → LowersElement old mid checking a → new ≡ mid ++ instruction (kinds.Do1 op) span checking ∷ [] → LowersForm old new checking span (forms.One op) args
@@ -560,8 +648,9 @@ lowers_call h = record { lowered = h.lowered }
 as_kind : {old new : List SlotInstr} {checking span : Span} {kind : ExprKind Slot Ty} {callee : Callee} {args : List TypedExpr}
     → ((world : World) (env : Env) → kind_gives world env kind span ≡ call_value world span callee (map (node_of world env) args))
     → ((known : Known-names) → is_ready_kind known kind ≡ call_ready callee (map (ready_node known) args)) → kind_count kind ≡ total (map node_count args) + 1 → price_at kind ≡ call_price callee (map priced args)
+    → own_spans_at kind ≡ callee_spans callee ++ joined (map own_spans args) → names_at kind ≡ call_names callee (map named args)
     → LowersCall old new checking span callee args → Lowers old new checking kind span widths.One
-as_kind {old} {new} {checking} {span} {kind} {callee} {args} gives readies counted prices h = record {
+as_kind {old} {new} {checking} {span} {kind} {callee} {args} gives readies counted prices parts reads_as h = record {
   lowered = record {
     rows = h.lowered.rows;
     grown = h.lowered.grown;
@@ -572,6 +661,10 @@ as_kind {old} {new} {checking} {span} {kind} {callee} {args} gives readies count
     count = h.lowered.count;
     stands = λ slots r. stands_most (omega (arith, counted)) (h.lowered.stands slots (sym (readies (in_scope slots)) ∙ r));
     light = light_as (under prices) h.lowered.light;
+    spans =
+        let covers = covers_kind kind span parts in
+        spanned_in (covers_cons (covers_first covers) (covers_right (callee_spans callee) (joined (map own_spans args)) (covers_rest covers))) h.lowered.spans;
+    gets = gets_as reads_as h.lowered.gets;
   };
 }
 
@@ -579,10 +672,12 @@ pub lowers_called : {old new : List SlotInstr} {checking span : Span} {kind : Ex
     → LowersCall old new checking span callee args → Lowers old new checking kind span widths.One
 lowers_called {old} {new} {checking} {span} {kind} {callee} {args} is h =
     as_kind (λ world env. ap (λ k. kind_gives world env k span) is ∙ source.call_gives world env callee args span)
-    (λ known. ap (is_ready_kind known) is ∙ ready.call_is_ready known callee args) (ap kind_count is ∙ source.call_counted callee args) (ap price_at is ∙ room.call_priced callee args) h
+    (λ known. ap (is_ready_kind known) is ∙ ready.call_is_ready known callee args) (ap kind_count is ∙ source.call_counted callee args) (ap price_at is ∙ room.call_priced callee args)
+    (ap own_spans_at is ∙ spanned.call_spanned callee args) (ap names_at is ∙ naming.call_named callee args) h
 
 pub lowers_new : {old new : List SlotInstr} {checking span : Span} {kind : ExprKind Slot Ty} {callee : Callee} {args : List TypedExpr} → kind ≡ exprs.New callee args
     → LowersCall old new checking span callee args → Lowers old new checking kind span widths.One
 lowers_new {old} {new} {checking} {span} {kind} {callee} {args} is h =
     as_kind (λ world env. ap (λ k. kind_gives world env k span) is ∙ source.new_gives world env callee args span)
-    (λ known. ap (is_ready_kind known) is ∙ ready.new_is_ready known callee args) (ap kind_count is ∙ source.new_counted callee args) (ap price_at is ∙ room.new_priced callee args) h
+    (λ known. ap (is_ready_kind known) is ∙ ready.new_is_ready known callee args) (ap kind_count is ∙ source.new_counted callee args) (ap price_at is ∙ room.new_priced callee args)
+    (ap own_spans_at is ∙ spanned.new_spanned callee args) (ap names_at is ∙ naming.new_named callee args) h

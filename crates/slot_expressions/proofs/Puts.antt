@@ -1,16 +1,16 @@
 -- Rows that put elements, one piece after the other.
-use Rattle.std.proofs.Common.{◌≡◌, ℕ, List, [], ◌∷◌, ◌++◌, length, map, Result, Ok, Err, refl, sym, ap, ◌∙◌, append_assoc}
+use Rattle.std.proofs.Common.{◌≡◌, ℕ, List, [], ◌∷◌, ◌++◌, map, Result, Ok, Err, refl, sym, ap, ◌∙◌, append_assoc}
 use Rattle.std.proofs.lemmas.List.{map-append}
 use Rattle.cash_base.specs.declared.fault.Cause.{Cause}
 use Rattle.cash_base.specs.declared.place.Span.{Span}
 use Rattle.cash_base.specs.Failing.{◌>>=◌}
 use Rattle.tx_context.specs.World.{World}
 use Rattle.source_meaning.specs.declared.outcome.Failure.{Failure}
-use Rattle.source_meaning.specs.Meaning.{Env, Given, Value, One as GivenOne, Two as GivenTwo, left_of, right_of, element, at_span}
+use Rattle.source_meaning.specs.Meaning.{Env, Value, One as GivenOne, at_span}
 use Rattle.slot_code.specs.declared.slots.SlotInstr.{SlotInstr}
 use Rattle.slot_code.specs.Meaning.{State, state, Next, Act, act_of, all_acts, run_of}
 use Rattle.slot_expressions.specs.declared.expressions.Width.TheVariants as widths
-use Rattle.slot_expressions.specs.Pieces.{Elements, Gives, one_of, Puts, given_on, as_wide, put_value, put_element}
+use Rattle.slot_expressions.specs.Pieces.{Elements, Gives, one_of, Puts, given_on, as_wide, put_value}
 
 abbrev pub both_of : Elements → Elements → Elements
 both_of va vb world env = do

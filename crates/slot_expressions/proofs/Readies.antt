@@ -1,5 +1,5 @@
 -- The parts of what is ready are ready.
-use Rattle.std.proofs.Common.{◌≡◌, ◌≤◌, ◌<◌, ◌*◌, ◌+◌, ℕ, ℤ, pos, Bool, true, false, get_or, List, [], ◌∷◌, length, map, drop, ap, sym, ◌∙◌, refl, arith, subst}
+use Rattle.std.proofs.Common.{◌≡◌, ◌≤◌, ◌<◌, ◌*◌, ℕ, ℤ, pos, true, false, get_or, List, [], ◌∷◌, length, map, ap, sym, ◌∙◌, arith, subst}
 use Rattle.std.specs.Prelude.{Option, Some, None, ◌&&◌, nat_le, IsTrue}
 use Rattle.std.proofs.lemmas.List.{length-map}
 use Rattle.std.proofs.lemmas.Bool.Decides.{nat_tests}
@@ -24,11 +24,9 @@ use Rattle.form_tables.specs.declared.forms.Lock.{Lock}
 use Rattle.form_tables.specs.Forms.{call_form}
 use Rattle.type_tables.specs.Tables.{TypedExpr, cast_effect}
 use Rattle.source_meaning.specs.Runnable.{all_of}
-use Rattle.slot_code.specs.declared.slots.SlotInstr.{SlotInstr}
 use Rattle.slot_expressions.specs.Ready.{any_name, is_element, is_cast, counts_fit, is_ready, is_ready_kind, ready_items, ready_items_kind, Ready, ReadyKind, ReadyCall, ReadyForm, ReadyAll, ReadyItems, ReadyFew, ReadyFewOf}
-use Rattle.slot_expressions.specs.Pieces.{LowersItems}
 use Rattle.slot_expressions.proofs.ReadySteps as ready
-use Rattle.slot_expressions.proofs.Single.{and_left, and_right}
+use Rattle.slot_expressions.proofs.Tests.{and_left, and_right}
 
 pub whole_readies : {e : TypedExpr} → Ready e → ReadyKind e.kind
 whole_readies {e} h = record { is = sym (ready.whole_ready any_name e) ∙ h.is }

@@ -1,5 +1,5 @@
 -- When each kind of expression is ready, by its line in the definition.
-use Rattle.std.proofs.Common.{◌≡◌, ℕ, ℤ, Bool, true, false, ◌*◌, List, [], ◌∷◌, length, map, pos, ap, sym, ◌∙◌, refl}
+use Rattle.std.proofs.Common.{◌≡◌, ℕ, ℤ, Bool, true, false, ◌*◌, List, [], map, pos, ap, sym, ◌∙◌, refl}
 use Rattle.std.specs.Prelude.{Some, None, ◌&&◌}
 use Rattle.std.proofs.lemmas.Simd.{map-map}
 use Rattle.cash_base.specs.declared.place.Slot.{Slot}

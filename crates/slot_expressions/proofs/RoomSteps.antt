@@ -1,5 +1,5 @@
 -- The price of each kind of expression, by its line in the definition.
-use Rattle.std.proofs.Common.{◌≡◌, ℕ, ℤ, Bool, ◌*◌, List, [], ◌∷◌, length, map, pos, ap, sym, ◌∙◌, refl}
+use Rattle.std.proofs.Common.{◌≡◌, ℕ, ℤ, Bool, ◌*◌, List, [], map, pos, ap, sym, ◌∙◌, refl}
 use Rattle.std.specs.Prelude.{Some, None, Option}
 use Rattle.std.proofs.lemmas.Simd.{map-map}
 use Rattle.cash_base.specs.declared.place.Slot.{Slot}

@@ -1,40 +1,32 @@
 -- Code that puts one element: its pieces, and the operations behind them.
-use Rattle.std.proofs.Common.{◌≡◌, ◌≤◌, ℕ, ◌+◌, ◌*◌, Bool, true, false, List, [], ◌∷◌, ◌++◌, length, map, None, Result, Ok, Err, refl, sym, ap, ◌∙◌, subst, arith, append_assoc}
+use Rattle.std.proofs.Common.{◌≡◌, ◌≤◌, ℕ, ◌+◌, ◌*◌, Bool, true, false, List, [], ◌∷◌, ◌++◌, None, Result, Ok, refl, ap, ◌∙◌, arith, append_assoc}
 use Rattle.std.specs.Prelude.{◌&&◌, Some}
 use Rattle.cash_base.specs.declared.place.Span.{Span}
 use Rattle.cash_base.specs.declared.place.Slot.{Slot}
 use Rattle.cash_base.specs.Failing.{◌>>=◌}
 use Rattle.tx_context.specs.World.{World}
-use Rattle.cash_tree.specs.declared.Ty.{Ty}
-use Rattle.cash_tree.specs.declared.ExprKind.{ExprKind}
 use Rattle.type_tables.specs.Tables.{TypedExpr}
 use Rattle.source_meaning.specs.declared.outcome.Failure.{Failure}
-use Rattle.source_meaning.specs.Meaning.{Env, Value, One as GivenOne, Two as GivenTwo, element, kind_gives, value_of}
-use Rattle.source_meaning.specs.Runnable.{node_count, kind_count}
+use Rattle.source_meaning.specs.Meaning.{Env, Value, One as GivenOne, element, value_of}
+use Rattle.source_meaning.specs.Runnable.{node_count}
 use Rattle.slot_code.specs.declared.slots.SlotInstr.{SlotInstr}
 use Rattle.slot_code.specs.declared.slots.SlotKind.{SlotKind}
-use Rattle.slot_code.specs.Meaning.{State, state, act_of}
+use Rattle.slot_code.specs.Meaning.{state, act_of}
 use Rattle.slot_code.specs.Shape.{Operand, Shapes, works_on, puts, value as work, shapes_at}
 use Rattle.slot_code.specs.Weight.{costs, plain, weighs_at}
+use Rattle.slot_code.specs.Spans.{spans_at}
 use Rattle.slot_expressions.specs.declared.expressions.Width.TheVariants as widths
-use Rattle.slot_expressions.specs.Ready.{Known-names, is_ready, is_ready_kind}
+use Rattle.slot_expressions.specs.Ready.{Known-names, is_ready}
 use Rattle.slot_expressions.specs.Room.{Price, ◌⊕◌, nothing, price_of}
-use Rattle.slot_expressions.specs.Pieces.{Elements, Gives, one_of, Code, Puts, Stands, Begins, Light, LowersValue, LowersElement, instruction, in_scope, put_value, put_element}
+use Rattle.slot_expressions.specs.Spans.{SpannedBy, own_spans}
+use Rattle.slot_expressions.specs.Reads.{Gets, gets_at, names_in}
+use Rattle.slot_expressions.proofs.ReadRows.{gets_as, gets_both, gets_row, gets_then}
+use Rattle.slot_expressions.specs.Pieces.{Gives, Code, Stands, Light, LowersValue, LowersElement, instruction, in_scope}
 use Rattle.slot_expressions.proofs.Puts.{bind_bind, bind_two, bind_three, puts_as, puts_row, puts_value, is_wide, after_one, after_two, after_three}
 use Rattle.slot_expressions.proofs.Standing.{stands_both, stands_most, stands_op, stands_put, begins_row, begins_more}
 use Rattle.slot_expressions.proofs.Lights.{Under, light_as, light_both, light_row, light_then}
-
-pub and_left : (a b : Bool) → (a && b) ≡ true → a ≡ true
-and_left true b is = refl
-and_left false b is = absurd cc
-
-pub and_right : (a b : Bool) → (a && b) ≡ true → b ≡ true
-and_right true b is = is
-and_right false b is = absurd cc
-
-pub and_intro : (a b : Bool) → a ≡ true → b ≡ true → (a && b) ≡ true
-and_intro true b is also = also
-and_intro false b is also = absurd cc
+use Rattle.slot_expressions.proofs.Spanning.{Covers, covers_first, covers_rest, spanned_in, spanned_both, spanned_sum, spanned_two, spanned_row}
+use Rattle.slot_expressions.proofs.Tests.{and_left, and_right}
 
 -- ---- what a row does
 
@@ -138,13 +130,13 @@ pub code_of : {old new : List SlotInstr} {checking : Span} {e : TypedExpr} (h : 
 code_of h = record { puts = h.puts; begins = h.begins; top = h.top; stands = h.stands }
 
 -- code that gives a value's one element is the value's
-pub lowers : {old new rows : List SlotInstr} {checking : Span} {v : Gives} {own : Known-names → Bool} {most : ℕ} {p : Price} (value : World → Env → Value) (ready : Known-names → Bool) (nodes : ℕ)
+pub lowers : {old new rows : List SlotInstr} {checking : Span} {v : Gives} {own : Known-names → Bool} {most : ℕ} {p : Price} {spans : List Span} {names : List Slot} (value : World → Env → Value) (ready : Known-names → Bool) (nodes : ℕ)
     → new ≡ old ++ rows → Code rows checking v own most
     → ((world : World) (env : Env) → value world env ≡ (v world env >>= λ e. Ok (GivenOne e)))
     → ((known : Known-names) → ready known ≡ true → own known ≡ true)
-    → most ≤ 4 * nodes → Light rows nothing p
-    → LowersValue old new checking widths.One value ready nodes p
-lowers {old} {new} {rows} {checking} {v} {own} {most} {p} value ready nodes grown h gives readies less light = record {
+    → most ≤ 4 * nodes → Light rows nothing p → SpannedBy rows checking spans → Gets rows checking names
+    → LowersValue old new checking widths.One value ready nodes p spans names
+lowers {old} {new} {rows} {checking} {v} {own} {most} {p} value ready nodes grown h gives readies less light spanned got = record {
   rows = rows;
   grown = grown;
   puts = puts_value v value gives h.puts;
@@ -154,47 +146,59 @@ lowers {old} {new} {rows} {checking} {v} {own} {most} {p} value ready nodes grow
   count = refl;
   stands = λ slots is. stands_most less (h.stands slots (readies (in_scope slots) is));
   light = light;
+  spans = spanned;
+  gets = got;
 }
 
 -- an operation on one, two or three expressions
-pub lowers1 : {old mid new : List SlotInstr} {checking : Span} {p : Price} (span : Span) {a : TypedExpr} (value : World → Env → Value) (ready : Known-names → Bool) (nodes : ℕ) (row : SlotKind) (f : World → List ℕ → Result (List ℕ) Failure)
+pub lowers1 : {old mid new : List SlotInstr} {checking : Span} {p : Price} {spans : List Span} {names : List Slot} (span : Span) {a : TypedExpr} (value : World → Env → Value) (ready : Known-names → Bool) (nodes : ℕ) (row : SlotKind) (f : World → List ℕ → Result (List ℕ) Failure)
     → Acts1 (instruction row span checking) f → shapes_at row ≡ work (works_on 1) → (cost : Price) → weighs_at row ≡ plain (costs cost.bytes cost.ops)
     → ((world : World) (env : Env) → value world env ≡ (element (value_of world env a) >>= λ x. f world x >>= λ e. Ok (GivenOne e)))
     → ((known : Known-names) → ready known ≡ true → is_ready known a ≡ true) → node_count a ≤ nodes → Under (price_of a ⊕ cost) p
+    → spans_at row ≡ [] → Covers spans (span ∷ own_spans a) → gets_at row ≡ Some [] → names ≡ names_in a
     → LowersElement old mid checking a → new ≡ mid ++ instruction row span checking ∷ []
-    → LowersValue old new checking widths.One value ready nodes p
-lowers1 {old} {mid} {new} {checking} {p} span {a} value ready nodes row f acts shape cost weighs gives readies less pays h grown =
+    → LowersValue old new checking widths.One value ready nodes p spans names
+lowers1 {old} {mid} {new} {checking} {p} span {a} value ready nodes row f acts shape cost weighs gives readies less pays flat covers got names_are h grown =
     lowers value ready nodes (grown1 old h.rows (instruction row span checking ∷ []) h.grown grown) (code_op1 row span f acts shape (code_of h))
     (λ world env. gives world env ∙ bind_bind (element (value_of world env a)) (f world) (λ e. Ok (GivenOne e)))
     readies (omega (arith, less)) (light_as pays (light_then row span checking cost weighs h.light))
+    (spanned_both (spanned_in (covers_rest covers) h.spans) (spanned_row row span checking flat (covers_first covers)))
+    (gets_as names_are (gets_then row span got h.gets))
 
-pub lowers2 : {old mid far new : List SlotInstr} {checking : Span} {p : Price} (span : Span) {a b : TypedExpr} (value : World → Env → Value) (ready : Known-names → Bool) (nodes : ℕ) (row : SlotKind) (f : World → List ℕ → List ℕ → Result (List ℕ) Failure)
+pub lowers2 : {old mid far new : List SlotInstr} {checking : Span} {p : Price} {spans : List Span} {names : List Slot} (span : Span) {a b : TypedExpr} (value : World → Env → Value) (ready : Known-names → Bool) (nodes : ℕ) (row : SlotKind) (f : World → List ℕ → List ℕ → Result (List ℕ) Failure)
     → Acts2 (instruction row span checking) f → shapes_at row ≡ work (works_on 2) → (cost : Price) → weighs_at row ≡ plain (costs cost.bytes cost.ops)
     → ((world : World) (env : Env) → value world env ≡ (element (value_of world env a) >>= λ x. element (value_of world env b) >>= λ y. f world x y >>= λ e. Ok (GivenOne e)))
     → ((known : Known-names) → ready known ≡ true → (is_ready known a && is_ready known b) ≡ true) → node_count a + node_count b ≤ nodes → Under (price_of a ⊕ price_of b ⊕ cost) p
+    → spans_at row ≡ [] → Covers spans (span ∷ (own_spans a ++ own_spans b)) → gets_at row ≡ Some [] → names ≡ names_in a ++ names_in b
     → LowersElement old mid checking a → LowersElement mid far checking b → new ≡ far ++ instruction row span checking ∷ []
-    → LowersValue old new checking widths.One value ready nodes p
-lowers2 {old} {mid} {far} {new} {checking} {p} span {a} {b} value ready nodes row f acts shape cost weighs gives readies less pays ha hb grown =
+    → LowersValue old new checking widths.One value ready nodes p spans names
+lowers2 {old} {mid} {far} {new} {checking} {p} span {a} {b} value ready nodes row f acts shape cost weighs gives readies less pays flat covers got names_are ha hb grown =
     lowers value ready nodes (grown2 old ha.rows hb.rows (instruction row span checking ∷ []) ha.grown hb.grown grown) (code_op2 row span f acts shape (code_of ha) (code_of hb))
     (λ world env. gives world env ∙ bind_two (element (value_of world env a)) (element (value_of world env b)) (f world) (λ e. Ok (GivenOne e)))
     readies (omega (arith, less)) (light_as pays (light_then row span checking cost weighs (light_both ha.light hb.light)))
+    (spanned_both (spanned_two covers ha.spans hb.spans) (spanned_row row span checking flat (covers_first covers)))
+    (gets_as names_are (gets_then row span got (gets_both ha.gets hb.gets)))
 
-pub lowers3 : {old mid far next new : List SlotInstr} {checking : Span} {p : Price} (span : Span) {a b c : TypedExpr} (value : World → Env → Value) (ready : Known-names → Bool) (nodes : ℕ) (row : SlotKind) (f : World → List ℕ → List ℕ → List ℕ → Result (List ℕ) Failure)
+pub lowers3 : {old mid far next new : List SlotInstr} {checking : Span} {p : Price} {spans : List Span} {names : List Slot} (span : Span) {a b c : TypedExpr} (value : World → Env → Value) (ready : Known-names → Bool) (nodes : ℕ) (row : SlotKind) (f : World → List ℕ → List ℕ → List ℕ → Result (List ℕ) Failure)
     → Acts3 (instruction row span checking) f → shapes_at row ≡ work (works_on 3) → (cost : Price) → weighs_at row ≡ plain (costs cost.bytes cost.ops)
     → ((world : World) (env : Env) → value world env ≡ (element (value_of world env a) >>= λ x. element (value_of world env b) >>= λ y. element (value_of world env c) >>= λ z. f world x y z >>= λ e. Ok (GivenOne e)))
     → ((known : Known-names) → ready known ≡ true → (is_ready known a && (is_ready known b && is_ready known c)) ≡ true) → node_count a + node_count b + node_count c ≤ nodes → Under (price_of a ⊕ price_of b ⊕ price_of c ⊕ cost) p
+    → spans_at row ≡ [] → Covers spans (span ∷ ((own_spans a ++ own_spans b) ++ own_spans c)) → gets_at row ≡ Some [] → names ≡ (names_in a ++ names_in b) ++ names_in c
     → LowersElement old mid checking a → LowersElement mid far checking b → LowersElement far next checking c → new ≡ next ++ instruction row span checking ∷ []
-    → LowersValue old new checking widths.One value ready nodes p
-lowers3 {old} {mid} {far} {next} {new} {checking} {p} span {a} {b} {c} value ready nodes row f acts shape cost weighs gives readies less pays ha hb hc grown =
+    → LowersValue old new checking widths.One value ready nodes p spans names
+lowers3 {old} {mid} {far} {next} {new} {checking} {p} span {a} {b} {c} value ready nodes row f acts shape cost weighs gives readies less pays flat covers got names_are ha hb hc grown =
     lowers value ready nodes (grown3 old ha.rows hb.rows hc.rows (instruction row span checking ∷ []) ha.grown hb.grown hc.grown grown) (code_op3 row span f acts shape (code_of ha) (code_of hb) (code_of hc))
     (λ world env. gives world env ∙ bind_three (element (value_of world env a)) (element (value_of world env b)) (element (value_of world env c)) (f world) (λ e. Ok (GivenOne e)))
     readies (omega (arith, less)) (light_as pays (light_then row span checking cost weighs (light_both (light_both ha.light hb.light) hc.light)))
+    (spanned_both (spanned_two covers (spanned_sum ha.spans hb.spans) hc.spans) (spanned_row row span checking flat (covers_first covers)))
+    (gets_as names_are (gets_then row span got (gets_both (gets_both ha.gets hb.gets) hc.gets)))
 
 -- a row that puts an operand
-pub lowers0 : {old new : List SlotInstr} {checking : Span} {p : Price} (span : Span) (value : World → Env → Value) (ready : Known-names → Bool) (nodes : ℕ) (row : SlotKind) (top : Operand) (v : Gives)
+pub lowers0 : {old new : List SlotInstr} {checking : Span} {p : Price} {spans : List Span} {names : List Slot} (span : Span) (value : World → Env → Value) (ready : Known-names → Bool) (nodes : ℕ) (row : SlotKind) (top : Operand) (v : Gives)
     → Acts0 (instruction row span checking) v → shapes_at row ≡ work (puts top)
     → ((world : World) (env : Env) → value world env ≡ (v world env >>= λ e. Ok (GivenOne e)))
-    → 1 ≤ nodes → (cost : Price) → weighs_at row ≡ plain (costs cost.bytes cost.ops) → Under cost p → new ≡ old ++ instruction row span checking ∷ []
-    → LowersValue old new checking widths.One value ready nodes p
-lowers0 {old} {new} {checking} {p} span value ready nodes row top v acts shape gives less cost weighs pays grown =
+    → 1 ≤ nodes → (cost : Price) → weighs_at row ≡ plain (costs cost.bytes cost.ops) → Under cost p → spans_at row ≡ [] → Covers spans (span ∷ []) → gets_at row ≡ Some [] → names ≡ [] → new ≡ old ++ instruction row span checking ∷ []
+    → LowersValue old new checking widths.One value ready nodes p spans names
+lowers0 {old} {new} {checking} {p} span value ready nodes row top v acts shape gives less cost weighs pays flat covers got names_are grown =
     lowers value ready nodes grown (code_put checking v row span top acts shape) gives (λ known is. refl) (omega (arith, less)) (light_as pays (light_row row span checking cost weighs))
+    (spanned_row row span checking flat covers) (gets_as names_are (gets_row row span checking got))

@@ -1,5 +1,5 @@
 -- Where the values stand around pieces of slot code.
-use Rattle.std.proofs.Common.{◌≡◌, ◌≤◌, ℕ, ◌+◌, ◌*◌, ◌==◌, Bool, true, false, List, [], ◌∷◌, ◌++◌, length, map, drop, Some, None, Option, refl, sym, ap, ◌∙◌, subst, arith, append_assoc}
+use Rattle.std.proofs.Common.{◌≡◌, ◌≤◌, ℕ, ◌+◌, ◌==◌, Bool, true, false, List, [], ◌∷◌, ◌++◌, length, map, drop, Some, None, Option, refl, sym, ap, ◌∙◌, arith, append_assoc}
 use Rattle.std.proofs.lemmas.Bool.Decides.{nat_tests}
 use Rattle.std.specs.Prelude.{option_and_then, if◌then◌else◌, nat_le, ◌&&◌, ◌||◌, not}
 use Rattle.std.specs.List.{list_any}
@@ -9,7 +9,7 @@ use Rattle.cash_base.specs.declared.place.Span.{Span}
 use Rattle.cash_base.specs.declared.place.Slot.{Slot}
 use Rattle.slot_code.specs.declared.slots.SlotInstr.{SlotInstr}
 use Rattle.slot_code.specs.declared.slots.SlotKind.{SlotKind}
-use Rattle.slot_code.specs.Shape.{Operand, Place, Shapes, Shape, only_if, with_operands, with_seen, then_shape, puts, works_on, reads, splits, value, all_shapes, shapes_of, shapes_at, stands_in, begins, has, has_span, is_span}
+use Rattle.slot_code.specs.Shape.{Operand, Place, Shapes, only_if, with_operands, with_seen, puts, works_on, reads, splits, value, all_shapes, shapes_of, shapes_at, stands_in, begins, has, has_span, is_span}
 use Rattle.slot_code.proofs.Steps.{whole_stands}
 use Rattle.slot_expressions.specs.Pieces.{Stands, Begins, seen_with, instruction}
 

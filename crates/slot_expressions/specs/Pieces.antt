@@ -1,6 +1,6 @@
 -- What pieces of slot code do: the elements that they put on the operands, where the values stand around them, and what they
 -- weigh.
-use Rattle.std.specs.Prelude.{◌≡◌, ℕ, ◌+◌, ◌*◌, ◌≤◌, ◌==◌, Bool, true, false, ◌&&◌, if◌then◌else◌, List, [], ◌∷◌, ◌++◌, length, map, drop, reverse, None, Option, Some, Result, Ok}
+use Rattle.std.specs.Prelude.{◌≡◌, ℕ, ◌+◌, ◌*◌, ◌≤◌, Bool, true, false, ◌&&◌, if◌then◌else◌, List, [], ◌∷◌, ◌++◌, length, map, drop, reverse, None, Option, Some, Result, Ok}
 use Rattle.cash_base.specs.declared.place.Span.{Span}
 use Rattle.cash_base.specs.declared.place.Slot.{Slot}
 use Rattle.cash_base.specs.Failing.{◌>>=◌}
@@ -9,7 +9,7 @@ use Rattle.cash_tree.specs.declared.Ty.{Ty}
 use Rattle.cash_tree.specs.declared.Expr.{Expr}
 use Rattle.cash_tree.specs.declared.ExprKind.{ExprKind}
 use Rattle.cash_tree.specs.declared.Callee.{Callee}
-use Rattle.cash_tree.specs.Nodes.{total}
+use Rattle.cash_tree.specs.Nodes.{joined, total}
 use Rattle.type_tables.specs.declared.rules.CastEffect.{CastEffect}
 use Rattle.type_tables.specs.declared.rules.CastEffect.TheVariants as effects
 use Rattle.form_tables.specs.declared.forms.CallForm.{CallForm}
@@ -25,6 +25,8 @@ use Rattle.slot_code.specs.Shape.{Operand, Place, with_operands, with_seen, all_
 use Rattle.slot_expressions.specs.declared.expressions.Width.{Width}
 use Rattle.slot_expressions.specs.declared.expressions.Width.TheVariants as widths
 use Rattle.slot_expressions.specs.Room.{Price, nothing, one, sum, form_price, call_price, as_chunk, other_chunk, priced, price_of, price_at, spelled, chunks_of}
+use Rattle.slot_expressions.specs.Spans.{SpannedBy, own_spans, own_spans_at}
+use Rattle.slot_expressions.specs.Reads.{Gets, named, names_in, names_at, item_names, form_names, call_names}
 use Rattle.slot_expressions.specs.Ready.{Known-names, is_ready, is_ready_kind, form_ready, call_ready, ready_node, ready_items, ReadyAll}
 
 abbrev pub instruction : SlotKind → Span → Span → SlotInstr
@@ -114,9 +116,9 @@ pub record Code (rows : List SlotInstr) (checking : Span) (v : Gives) (ready : K
   pub top : Operand
   pub stands : (slots : List Slot) → ready (in_scope slots) ≡ true → Stands rows checking slots (top ∷ []) most
 
--- Some rows were added, which put a value of this width, with all names known that are asked about, and weigh at most this
--- price; of each node at most four operands stand at once.
-pub record LowersValue (old new : List SlotInstr) (checking : Span) (width : Width) (value : World → Env → Value) (ready : Known-names → Bool) (nodes : ℕ) (most : Price) : Type 0 where
+-- Some rows were added, which put a value of this width, with all names known that are asked about, weigh at most this price, have
+-- no spans but these, and read these slots, in order; of each node at most four operands stand at once.
+pub record LowersValue (old new : List SlotInstr) (checking : Span) (width : Width) (value : World → Env → Value) (ready : Known-names → Bool) (nodes : ℕ) (most : Price) (own : List Span) (names : List Slot) : Type 0 where
   pub rows : List SlotInstr
   pub grown : new ≡ old ++ rows
   pub puts : Puts rows (put_value width value)
@@ -126,10 +128,12 @@ pub record LowersValue (old new : List SlotInstr) (checking : Span) (width : Wid
   pub count : length tops ≡ size width
   pub stands : (slots : List Slot) → ready (in_scope slots) ≡ true → Stands rows checking slots tops (4 * nodes)
   pub light : Light rows (unpaid width) most
+  pub spans : SpannedBy rows checking own
+  pub gets : Gets rows checking names
 
 -- those of an expression of this kind
 pub record Lowers (old new : List SlotInstr) (checking : Span) (kind : ExprKind Slot Ty) (span : Span) (width : Width) : Type 0 where
-  pub lowered : LowersValue old new checking width (λ world env. kind_gives world env kind span) (λ known. is_ready_kind known kind) (kind_count kind) (price_at kind)
+  pub lowered : LowersValue old new checking width (λ world env. kind_gives world env kind span) (λ known. is_ready_kind known kind) (kind_count kind) (price_at kind) (span ∷ own_spans_at kind) (names_at kind)
 
 -- ... and as a whole
 pub record LowersGiven (old new : List SlotInstr) (checking : Span) (e : Expr Slot Ty) (width : Width) : Type 0 where
@@ -138,12 +142,12 @@ pub record LowersGiven (old new : List SlotInstr) (checking : Span) (e : Expr Sl
 -- those of a call with these arguments, by the row of its form
 pub record LowersForm (old new : List SlotInstr) (checking span : Span) (form : CallForm) (args : List (Expr Slot Ty)) : Type 0 where
   pub lowered : LowersValue old new checking widths.One (λ world env. form_value world span form (map (node_of world env) args))
-      (λ known. form_ready form (map (ready_node known) args)) (total (map node_count args) + 1) (form_price form (map priced args))
+      (λ known. form_ready form (map (ready_node known) args)) (total (map node_count args) + 1) (form_price form (map priced args)) (span ∷ joined (map own_spans args)) (form_names form (map named args))
 
 -- ... and by its name
 pub record LowersCall (old new : List SlotInstr) (checking span : Span) (callee : Callee) (args : List (Expr Slot Ty)) : Type 0 where
   pub lowered : LowersValue old new checking widths.One (λ world env. call_value world span callee (map (node_of world env) args))
-      (λ known. call_ready callee (map (ready_node known) args)) (total (map node_count args) + 1) (call_price callee (map priced args))
+      (λ known. call_ready callee (map (ready_node known) args)) (total (map node_count args) + 1) (call_price callee (map priced args)) (span ∷ joined (map own_spans args)) (call_names callee (map named args))
 
 -- the same of an element
 pub record LowersElement (old new : List SlotInstr) (checking : Span) (e : Expr Slot Ty) : Type 0 where
@@ -154,6 +158,8 @@ pub record LowersElement (old new : List SlotInstr) (checking : Span) (e : Expr 
   pub top : Operand
   pub stands : (slots : List Slot) → is_ready (in_scope slots) e ≡ true → Stands rows checking slots (top ∷ []) (4 * node_count e)
   pub light : Light rows nothing (price_of e)
+  pub spans : SpannedBy rows checking (own_spans e)
+  pub gets : Gets rows checking (names_in e)
 
 -- ---- arrays
 
@@ -172,6 +178,8 @@ pub record LowersAll (old new : List SlotInstr) (checking : Span) (parts : List 
   pub stands : (slots : List Slot) → all_of (map (is_ready (in_scope slots)) parts) ≡ true
       → Stands rows checking slots tops (4 * total (map node_count parts))
   pub light : Light rows nothing (sum (map price_of parts))
+  pub spans : SpannedBy rows checking (joined (map own_spans parts))
+  pub gets : Gets rows checking (joined (map names_in parts))
 
 -- the same of the items of an array, of which there are so many; what is no array has none
 pub record LowersItems (old new : List SlotInstr) (checking : Span) (e : Expr Slot Ty) (count : ℕ) : Type 0 where
@@ -185,6 +193,8 @@ pub record LowersItems (old new : List SlotInstr) (checking : Span) (e : Expr Sl
   pub stands : (slots : List Slot) → all_of (ready_items (in_scope slots) e) ≡ true → Stands rows checking slots tops (4 * node_count e)
   pub light : Light rows nothing (price_of e)
   pub chunks : length (chunks_of e) ≡ count
+  pub spans : SpannedBy rows checking (own_spans e)
+  pub gets : Gets rows checking (item_names e)
 
 -- some rows were added, which append an expression, as a chunk, to the script of data that is on top
 pub record LowersChunk (old new : List SlotInstr) (checking span : Span) (e : Expr Slot Ty) : Type 0 where
@@ -194,6 +204,8 @@ pub record LowersChunk (old new : List SlotInstr) (checking span : Span) (e : Ex
       → Code (begun ++ rows) checking (λ world env. v world env >>= λ so_far. element (value_of world env e) >>= λ chunk. appended span so_far (pushed_chunk chunk))
       (λ known. ready known && is_ready known e) (most + 4 * node_count e)
   pub light : Light rows nothing (as_chunk (priced e))
+  pub spans : SpannedBy rows checking (span ∷ own_spans e)
+  pub gets : Gets rows checking (names_in e)
 
 -- ... expressions, one after the other
 pub record LowersChunks (old new : List SlotInstr) (checking span : Span) (parts : List (Expr Slot Ty)) : Type 0 where
@@ -203,6 +215,8 @@ pub record LowersChunks (old new : List SlotInstr) (checking span : Span) (parts
       → Code (begun ++ rows) checking (λ world env. v world env >>= λ so_far. with_chunks span so_far (map (value_of world env) parts))
       (λ known. ready known && all_of (map (is_ready known) parts)) (most + 4 * total (map node_count parts))
   pub light : Light rows nothing (sum (map (λ (e : Expr Slot Ty). as_chunk (priced e)) parts))
+  pub spans : SpannedBy rows checking (span ∷ joined (map own_spans parts))
+  pub gets : Gets rows checking (joined (map names_in parts))
 
 pub record LowersArray (old new : List SlotInstr) (checking span : Span) (e : Expr Slot Ty) : Type 0 where
   pub rows : List SlotInstr
@@ -211,6 +225,8 @@ pub record LowersArray (old new : List SlotInstr) (checking span : Span) (e : Ex
       → Code (begun ++ rows) checking (λ world env. v world env >>= λ so_far. with_chunks span so_far (items_of world env e))
       (λ known. ready known && all_of (ready_items known e)) (most + 4 * node_count e)
   pub light : Light rows nothing (sum (chunks_of e))
+  pub spans : SpannedBy rows checking (span ∷ own_spans e)
+  pub gets : Gets rows checking (item_names e)
 
 -- a cast that leaves its value as it is
 abbrev pub keeps : Option CastEffect → Bool
@@ -221,11 +237,13 @@ abbrev pub leaves : Option CastEffect → Option (Expr Slot Ty) → Bool
 leaves effect (Some size) = false
 leaves effect None = keeps effect
 
--- the source spells the expression as a literal of these bytes, which are short enough to be pushed with their prefix
+-- the source spells the expression as a literal of these bytes, which are short enough to be pushed with their prefix, and reads
+-- nothing
 pub record IsSpelled (e : Expr Slot Ty) (bytes : List ℕ) : Type 0 where
   pub is : spelled e ≡ Some bytes
   pub gives : (world : World) (env : Env) → element (value_of world env e) ≡ Ok bytes
   pub some : 1 ≤ node_count e
+  pub unread : names_in e ≡ []
 
 pub record IsChunk (e : Expr Slot Ty) (bytes : List ℕ) : Type 0 where
   pub whole : IsSpelled e bytes

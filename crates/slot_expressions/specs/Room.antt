@@ -1,5 +1,5 @@
 -- How many bytes and counted opcodes the code of an expression may have, summed node by node over its typed tree.
-use Rattle.std.specs.Prelude.{ℕ, ◌+◌, ◌*◌, nat_le, Bool, if◌then◌else◌, List, [], ◌∷◌, length, map, pos, Option, Some, None}
+use Rattle.std.specs.Prelude.{ℕ, ◌+◌, ◌*◌, nat_le, if◌then◌else◌, List, [], ◌∷◌, length, map, pos, Option, Some, None}
 use Rattle.cash_base.specs.declared.place.Slot.{Slot}
 use Rattle.cash_base.specs.Number.{minimal_bytes}
 use Rattle.element_ops.specs.declared.op.Op1.{Op1}
@@ -19,7 +19,6 @@ use Rattle.form_tables.specs.declared.forms.BinaryForm.{BinaryForm}
 use Rattle.form_tables.specs.declared.forms.BinaryForm.TheVariants as binary
 use Rattle.form_tables.specs.declared.forms.CallForm.{CallForm}
 use Rattle.form_tables.specs.declared.forms.CallForm.TheVariants as forms
-use Rattle.form_tables.specs.declared.forms.Lock.{Lock}
 use Rattle.form_tables.specs.declared.forms.Lock.TheVariants as locks
 use Rattle.form_tables.specs.Forms.{is_int, binary_form, call_form, pushed_chunk}
 

@@ -1,6 +1,5 @@
 -- Which instructions stand for a form: one row of a table each.
-use Rattle.std.specs.Prelude.{◌≡◌, ℕ, Bool, List, [], ◌∷◌, ◌++◌, pos, Option, Some, None, Result, Ok}
-use Rattle.arrayvec.specs.ArrayVec.{ArrayVec}
+use Rattle.std.specs.Prelude.{◌≡◌, ℕ, Bool, List, [], ◌∷◌, ◌++◌, pos, Option, Some, Ok}
 use Rattle.cash_base.specs.Number.{minimal_bytes}
 use Rattle.cash_base.specs.declared.place.Span.{Span}
 use Rattle.element_ops.specs.declared.op.Op1.TheVariants.{Not, NonZero, ToNumber}

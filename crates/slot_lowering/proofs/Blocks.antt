@@ -29,14 +29,22 @@ use Rattle.slot_lowering.specs.Scoped.{Part, value_scoped, part_of, part_of_kind
 use Rattle.slot_lowering.specs.Statements.{Holds, Distinct, Reaches, Leads, Does, LowersKind, LowersStmt, LowersRun, place, leaves, leave_all, names_of, is_scoped, end_row, IsBlock, LowersBlock}
 use Rattle.slot_lowering.specs.Room.{Pays, block_pays, if_pays, pays_of, pays_at}
 use Rattle.slot_lowering.specs.Weighed.{Inside}
+use Rattle.slot_lowering.specs.Spans.{own_spans, own_spans_at}
+use Rattle.slot_expressions.specs.Spans.{SpannedBy, own_spans as value_spans}
+use Rattle.cash_tree.specs.Nodes.{joined}
 use Rattle.slot_lowering.proofs.ScopedSteps as scoped
 use Rattle.slot_lowering.proofs.PricingSteps as pricing
+use Rattle.slot_lowering.proofs.SpanSteps as spanned
+use Rattle.slot_lowering.proofs.Spanning.{among_own, among_none, among_more, block_spanned, fork_spanned}
 use Rattle.slot_lowering.proofs.Weights.{none_inside, more_inside, ended_inside, choice_inside}
 use Rattle.slot_expressions.proofs.Puts.{run_append}
 use Rattle.slot_expressions.proofs.Standing.{if_true, shape_append, row_shape}
-use Rattle.slot_expressions.proofs.Single.{and_left, and_right, grown1}
+use Rattle.slot_expressions.proofs.Tests.{and_left, and_right}
+use Rattle.slot_expressions.proofs.Single.{grown1}
 use Rattle.slot_expressions.proofs.Acts.{row_done}
 use Rattle.slot_lowering.proofs.Simple.{simple, flipped, ok_same}
+use Rattle.slot_lowering.specs.Arranged.{Valued, ArrangedKind, ArrangedBlock, inner, nothing_left}
+use Rattle.slot_lowering.proofs.Arranging.{valued, arranged_run, arranged_only, arranged_else}
 
 abbrev TypedStmt : Type 0
 TypedStmt = Stmt Slot Ty
@@ -57,6 +65,8 @@ lowers_stmt {old} {new} {s} h = record {
         leads = k.leads;
       });
   weight = subst (λ (p : Pays). Inside h.rows p.names p.inner) (sym (pricing.whole_pays s)) h.weight;
+  spans = among_own s h.spans;
+  arranged = h.arranged;
 }
 
 -- ---- one after the other
@@ -77,6 +87,8 @@ run_none code = record {
     leads = λ outer seen. record { later = seen; to = ap (λ l. Some (place l outer seen)) (sym (append-nil slots)); kept = λ span is. is };
   };
   weight = none_inside;
+  spans = among_none;
+  arranged = nothing_left;
 }
 
 run_step : (r : Result Env Failure) (b : List SlotInstr) (more : Doing) (world : World)
@@ -137,6 +149,8 @@ run_more {old} {mid} {new} {s} {body} h t = record {
       does_more s body (h.does slots (and_left ((part_of s).scoped slots) (all_scoped (map part_of body) (slots ++ (part_of s).names)) ok))
       (t.does (slots ++ (part_of s).names) (and_right ((part_of s).scoped slots) (all_scoped (map part_of body) (slots ++ (part_of s).names)) ok));
   weight = more_inside (pays_of s) (map pays_of body) h.weight t.weight;
+  spans = among_more (own_spans s) (joined (map own_spans body)) h.spans t.spans;
+  arranged = arranged_run body h.arranged t.arranged;
 }
 
 -- ---- the ends of names
@@ -274,6 +288,8 @@ lowers_block {mid} {new} {body} {checking} h grown = record {
       });
   weight = subst (λ l. Inside l 0 (block_pays (map pays_of body))) (sym (grown ∙ ap (λ l. l ++ map (end_row checking) (names_of body)) h.grown))
       (ended_inside checking (names_of body) (map pays_of body) (pricing.names_counted body) h.weight);
+  spans = subst (λ l. SpannedBy l checking (joined (map own_spans body))) (sym (grown ∙ ap (λ l. l ++ map (end_row checking) (names_of body)) h.grown)) (block_spanned checking (names_of body) h.spans);
+  arranged = subst (ArrangedBlock false body checking) (sym (grown ∙ ap (λ l. l ++ map (end_row checking) (names_of body)) h.grown)) (inner h.arranged);
 }
 
 -- ---- choices
@@ -331,9 +347,11 @@ choice_lowered : {old mid new yes_code no_code : List SlotInstr} {span : Span} {
     → part_of_kind kind ≡ record { names = []; scoped = λ slots. value_scoped e slots && (is_scoped ss slots && is_scoped us slots) }
     → ((world : World) (env : Env) → kind_leaves world kind span env ≡ (element (value_of world env e) >>= λ x. block (if truth_of x then map (env_after world) ss else map (env_after world) us) env))
     → (o : Option (List Pays)) → pays_at kind ≡ if_pays (price_of e) (map pays_of ss) o → unwrap_or o [] ≡ map pays_of us
+    → own_spans_at kind ≡ value_spans e ++ (joined (map own_spans ss) ++ joined (map own_spans us))
     → LowersElement old mid span e → LowersBlock yes_code ss span → LowersBlock no_code us span
+    → ((rows : List SlotInstr) → Valued rows span e → ArrangedKind false kind span (rows ++ instruction (kinds.If yes_code no_code) span span ∷ []))
     → new ≡ mid ++ instruction (kinds.If yes_code no_code) span span ∷ [] → LowersKind old new kind span
-choice_lowered {old} {mid} {new} {yes_code} {no_code} {span} {kind} {e} {ss} {us} parts is o pays other h ya na grown =
+choice_lowered {old} {mid} {new} {yes_code} {no_code} {span} {kind} {e} {ss} {us} parts is o pays other own h ya na arranges grown =
     let i = instruction (kinds.If yes_code no_code) span span in record {
       rows = h.rows ++ i ∷ [];
       grown = grown1 old h.rows (i ∷ []) h.grown grown;
@@ -354,6 +372,8 @@ choice_lowered {old} {mid} {new} {yes_code} {no_code} {span} {kind} {e} {ss} {us
           (λ top outer seen begun. subst (λ l. Reaches (choice_shape (map shapes_of yes_code) (map shapes_of no_code) (place slots outer seen)) l outer seen) (sym (append-nil slots)) (choice_reaches slots outer seen a b begun))
           (and_left (value_scoped e slots) (is_scoped ss slots && is_scoped us slots) both));
       weight = choice_inside kind span (map pays_of ss) (map pays_of us) o pays other h.light ya.weight na.weight;
+      spans = fork_spanned own h.spans ya.spans na.spans;
+      arranged = arranges h.rows (valued h);
     }
 
 pub lowers_if_only : {old mid new yes_code no_code : List SlotInstr} {span : Span} {kind : StmtKind Slot Ty} {e : TypedExpr} {ss : List TypedStmt} → kind ≡ stmts.If e ss None
@@ -361,14 +381,14 @@ pub lowers_if_only : {old mid new yes_code no_code : List SlotInstr} {span : Spa
     → new ≡ mid ++ instruction (kinds.If yes_code no_code) span span ∷ [] → LowersKind old new kind span
 lowers_if_only {old} {mid} {new} {yes_code} {no_code} {span} {kind} {e} {ss} is h ya na grown =
     choice_lowered {us = []} (ap part_of_kind is ∙ scoped.if_only_part e ss) (λ world env. ap (λ k. kind_leaves world k span env) is ∙ source.if_only_leaves world e ss span env)
-    None (ap pays_at is ∙ pricing.if_only_pays e ss) refl h ya na grown
+    None (ap pays_at is ∙ pricing.if_only_pays e ss) refl (ap own_spans_at is ∙ spanned.if_only_spanned e ss) h ya na (λ rows v. arranged_only is v ya.arranged na.arranged) grown
 
 pub lowers_if_else : {old mid new yes_code no_code : List SlotInstr} {span : Span} {kind : StmtKind Slot Ty} {e : TypedExpr} {ss us : List TypedStmt} → kind ≡ stmts.If e ss (Some us)
     → LowersElement old mid span e → LowersBlock yes_code ss span → LowersBlock no_code us span
     → new ≡ mid ++ instruction (kinds.If yes_code no_code) span span ∷ [] → LowersKind old new kind span
 lowers_if_else {old} {mid} {new} {yes_code} {no_code} {span} {kind} {e} {ss} {us} is h ya na grown =
     choice_lowered (ap part_of_kind is ∙ scoped.if_else_part e ss us) (λ world env. ap (λ k. kind_leaves world k span env) is ∙ source.if_else_leaves world e ss us span env)
-    (Some (map pays_of us)) (ap pays_at is ∙ pricing.if_else_pays e ss us) refl h ya na grown
+    (Some (map pays_of us)) (ap pays_at is ∙ pricing.if_else_pays e ss us) refl (ap own_spans_at is ∙ spanned.if_else_spanned e ss us) h ya na (λ rows v. arranged_else is v ya.arranged na.arranged) grown
 
 -- a missing block is empty
 pub no_block : (checking : Span) → LowersBlock [] [] checking

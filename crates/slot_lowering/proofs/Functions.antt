@@ -4,7 +4,7 @@ use Rattle.std.proofs.Math.Path.{fun_ext}
 use Rattle.std.specs.Prelude.{◌&&◌, ◌||◌, nat_le, nat_lt, is_some, Some, None, Option, option_and_then, if◌then◌else◌, slice_get}
 use Rattle.std.specs.List.{list_all, AllZip, All, AllByRecursion}
 use Rattle.std.proofs.lemmas.List.{append-nil, at_drop_more, drop_all, length-append}
-use Rattle.std.proofs.lemmas.List.Folds.{list_any-append}
+use Rattle.std.proofs.lemmas.List.Folds.{list_all-append, list_any-append}
 use Rattle.std.proofs.lemmas.List.Elements.{All-from_recursion}
 use Rattle.std.proofs.lemmas.Option.{slice_get-get_or, slice_get_past}
 use Rattle.std.proofs.lemmas.Bool.{leb-true, ltb-true, eqb-true}
@@ -24,12 +24,17 @@ use Rattle.slot_code.specs.declared.slots.SlotFunction.{SlotFunction}
 use Rattle.slot_code.specs.Meaning.{state, run_of, handed}
 use Rattle.slot_code.specs.Shape.{Operand, Place, has, closed, path_shape, shapes_of, first_slots, start, ends_rightly as rows_end, is_body, IsWellFormed}
 use Rattle.slot_code.specs.Weight.{path_weigh}
-use Rattle.slot_expressions.proofs.Single.{and_intro, and_left, and_right}
+use Rattle.slot_expressions.proofs.Tests.{and_intro, and_left, and_right}
 use Rattle.slot_lowering.specs.Scoped.{has_values, ReadyBody, ends_rightly}
 use Rattle.slot_lowering.specs.Statements.{Holds, IsPath, LowersBodyAt, met, leave_all, is_scoped}
-use Rattle.slot_lowering.specs.Functions.{in_slots, function_fits, CanLower, CanLowerFunction, HasCounts, RunsAs, IsWeighed, IsLowered, AreLowered, LeftFunctions}
+use Rattle.slot_lowering.specs.Functions.{in_slots, function_fits, CanLower, CanLowerFunction, HasCounts, RunsAs, IsWeighed, KeepsSpans, Arranges, IsLowered, AreLowered, LeftFunctions}
 use Rattle.slot_lowering.specs.Room.{path_pays, pays_of, function_price}
 use Rattle.slot_lowering.specs.Weighed.{weights, AtEnd}
+use Rattle.slot_lowering.specs.Spans.{SpansAmong, own_spans}
+use Rattle.slot_code.specs.Spans.{code_spans}
+use Rattle.cash_tree.specs.Nodes.{joined}
+use Rattle.cash_tree.specs.Spans.{nothing as no_name, param_spans, statement_spans}
+use Rattle.slot_lowering.specs.Arranged.{ArrangedBody}
 
 -- ---- the slots at the start
 
@@ -142,6 +147,18 @@ weighed {contract} {f} {g} count h =
       ops = subst (λ k. (path_weigh (weights g.body) k).ops ≤ (function_price contract f).ops) (sym count) (h.within.ops n);
     }
 
+spanned : {f : Function Slot Ty} {g : SlotFunction} → g.span ≡ f.span → SpansAmong g.body (joined (map own_spans f.body)) → KeepsSpans f g
+unfolding own_spans
+spanned {f} {g} span_is h = record {
+  all = λ test holds.
+      let params = joined (map (param_spans no_name) f.params) in
+      let body = joined (map (statement_spans no_name) f.body) in
+      let first : (test f.span && list_all test (params ++ body)) ≡ true = and_right (test f.name) (test f.span && list_all test (params ++ body)) holds in
+      let both = sym (list_all-append test params body) ∙ and_right (test f.span) (list_all test (params ++ body)) first in
+      and_intro (test g.span) (list_all test (code_spans g.body)) (ap test span_is ∙ and_left (test f.span) (list_all test (params ++ body)) first)
+      (h.all test (and_right (list_all test params) (list_all test body) both));
+}
+
 pub is_lowered : {contract : Contract Slot Ty} {f : Function Slot Ty} {none_yet : List SlotInstr} {g : SlotFunction} → CanLowerFunction contract f → none_yet ≡ []
     → LowersBodyAt true none_yet g.body f.body → g.ctors ≡ length contract.params → g.params ≡ length f.params → g.span ≡ f.span → IsLowered contract f g
 is_lowered {contract} {f} {none_yet} {g} can none_is h ctors_is params_is span_is =
@@ -170,6 +187,8 @@ is_lowered {contract} {f} {none_yet} {g} can none_is h ctors_is params_is span_i
             (p.alike world (handed ctor args) (holds_handed ctor args n at_start))
             ∙ ap (λ env. ended (env_after_all world f.body env)) (sym (handed_alike contract f ctor args can.params (and_left (in_slots ctors f.params) (nat_le n 160) first) ctor_count arg_count));
       };
+      spans = spanned span_is (subst (λ l. SpansAmong l (joined (map own_spans f.body))) (sym rows_are) path.spans);
+      arranged = record { is = subst (ArrangedBody true f.body) (sym rows_are) (path.arranged (and_right (is_scoped f.body slots) (ends_rightly f.body) third)) };
       weight = weighed count (subst (λ l. AtEnd l (path_pays (map pays_of f.body))) (sym rows_are) (path.weight (and_right (is_scoped f.body slots) (ends_rightly f.body) third)));
     }
 
@@ -230,6 +249,12 @@ runs_of_all {contract} {gs} h = each contract.functions gs (λ f g is. is.run) h
 
 pub weights_of_all : {contract : Contract Slot Ty} {gs : List SlotFunction} → AreLowered contract contract.functions gs → AllZip (IsWeighed contract) contract.functions gs
 weights_of_all {contract} {gs} h = each contract.functions gs (λ f g is. is.weight) h.all
+
+pub spans_of_all : {contract : Contract Slot Ty} {gs : List SlotFunction} → AreLowered contract contract.functions gs → AllZip KeepsSpans contract.functions gs
+spans_of_all {contract} {gs} h = each contract.functions gs (λ f g is. is.spans) h.all
+
+pub arranged_all : {contract : Contract Slot Ty} {gs : List SlotFunction} → AreLowered contract contract.functions gs → AllZip Arranges contract.functions gs
+arranged_all {contract} {gs} h = each contract.functions gs (λ f g is. is.arranged) h.all
 
 shapes : (contract : Contract Slot Ty) (fs : List (Function Slot Ty)) (gs : List SlotFunction) → AllZip (IsLowered contract) fs gs → AllByRecursion IsWellFormed gs
 shapes contract [] [] h = tt

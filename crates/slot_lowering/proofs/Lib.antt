@@ -1,6 +1,9 @@
 pub mod ScopedSteps
 pub mod PricingSteps
 pub mod Weights
+pub mod SpanSteps
+pub mod Spanning
+pub mod Arranging
 pub mod Values
 pub mod Simple
 pub mod Blocks
@@ -8,3 +11,4 @@ pub mod Paths
 pub mod Ends
 pub mod Placed
 pub mod Functions
+pub mod Inside

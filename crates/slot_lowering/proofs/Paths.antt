@@ -29,14 +29,24 @@ use Rattle.slot_lowering.specs.Scoped.{Part, value_scoped, part_of, part_of_kind
 use Rattle.slot_lowering.specs.Statements.{Holds, IsPath, IsBranch, LowersStmt, LowersLast, LowersLastKind, LowersPath, met, place, leaves, leave_all, is_scoped}
 use Rattle.slot_lowering.specs.Room.{Pays, if_pays, path_pays, pays_of, pays_at}
 use Rattle.slot_lowering.specs.Weighed.{Within, AtEnd}
+use Rattle.slot_lowering.specs.Spans.{SpansAmong, own_spans, own_spans_at}
+use Rattle.slot_expressions.specs.Spans.{own_spans as value_spans}
+use Rattle.slot_code.specs.Spans.{spans_at}
+use Rattle.cash_tree.specs.Nodes.{joined}
 use Rattle.slot_lowering.proofs.ScopedSteps as scoped
 use Rattle.slot_lowering.proofs.PricingSteps as pricing
+use Rattle.slot_lowering.proofs.SpanSteps as spanned
+use Rattle.slot_lowering.proofs.Spanning.{value_row, among_own, among_none, among_more, among_last, spanned_among, fork_spanned}
+use Rattle.slot_expressions.proofs.Spanning.{covers_as}
 use Rattle.slot_lowering.proofs.Weights.{paid_at_end, more_at_end, none_within, fork_at_end}
 use Rattle.slot_expressions.proofs.Puts.{run_append, run_one}
 use Rattle.slot_expressions.proofs.Standing.{begun, shape_append, seen_now}
-use Rattle.slot_expressions.proofs.Single.{and_intro, and_left, and_right, grown1}
+use Rattle.slot_expressions.proofs.Tests.{and_intro, and_left, and_right}
+use Rattle.slot_expressions.proofs.Single.{grown1}
 use Rattle.slot_expressions.proofs.Acts.{row_done}
 use Rattle.slot_lowering.proofs.Simple.{on_place, element_leads, check_does, passed_same, checked_same}
+use Rattle.slot_lowering.specs.Arranged.{IsSimple, checks_time, checks_age, requires_it, simple as arranged_simple, Valued, ArrangedKind, nothing_left}
+use Rattle.slot_lowering.proofs.Arranging.{valued, arranged_alone, arranged_path, arranged_only, arranged_else, arranged_at_end}
 
 abbrev TypedStmt : Type 0
 TypedStmt = Stmt Slot Ty
@@ -93,6 +103,8 @@ path_more {old} {mid} {new} {s} {t} {body} h p = record {
         goes_on = ap is_over both ∙ not_over (map shapes_of h.rows) (map shapes_of p.rows) q.goes_on;
       };
   weight = λ ends. more_at_end (pays_of s) (pays_of t) (map pays_of body) h.weight (p.weight ends);
+  spans = among_more (own_spans s) (joined (map own_spans (t ∷ body))) h.spans p.spans;
+  arranged = λ ends. arranged_path h.arranged (p.arranged ends);
 }
 
 alone : (r : Result Env Failure) → met r ≡ met (r >>= λ after. Ok after)
@@ -111,6 +123,8 @@ path_last {old} {new} {s} h = record {
         goes_on = q.goes_on;
       };
   weight = h.weight;
+  spans = among_last (own_spans s) h.spans;
+  arranged = λ ends. arranged_alone (h.arranged ends);
 }
 
 -- ---- the last statement
@@ -127,6 +141,8 @@ last_stmt {old} {new} {s} h = record {
         goes_on = q.goes_on;
       };
   weight = λ ends. subst (λ (p : Pays). AtEnd h.rows p.last) (sym (pricing.whole_pays s)) (h.weight (sym (scoped.whole_ends s) ∙ ends));
+  spans = among_own s h.spans;
+  arranged = λ ends. h.arranged (sym (scoped.whole_ends s) ∙ ends);
 }
 
 met_ok : (r : Result Env Failure) → met (r >>= λ after. Ok (state [] after)) ≡ met r
@@ -155,8 +171,9 @@ pub last_check : {old mid new : List SlotInstr} {span : Span} {kind : StmtKind S
     → ((world : World) (x : List ℕ) (env : Env) → act_of world (instruction row span span) (state (x ∷ []) env) ≡ (f world x env >>= λ after. Ok (state [] after)))
     → ((world : World) (env : Env) → kind_leaves world kind span env ≡ (element (value_of world env e) >>= λ x. f world x env))
     → ((world : World) (x : List ℕ) (env after : Env) → f world x env ≡ Ok after → env ≡ after)
-    → (h : LowersElement old mid span e) → AtEnd (h.rows ++ instruction row span span ∷ []) (pays_at kind).last → new ≡ mid ++ instruction row span span ∷ [] → LowersLastKind old new kind span
-last_check {old} {mid} {new} {span} {kind} {e} row f parts shape acts is same h paid grown =
+    → (h : LowersElement old mid span e) → AtEnd (h.rows ++ instruction row span span ∷ []) (pays_at kind).last → spans_at row ≡ [] → own_spans_at kind ≡ value_spans e → IsSimple kind e row
+    → new ≡ mid ++ instruction row span span ∷ [] → LowersLastKind old new kind span
+last_check {old} {mid} {new} {span} {kind} {e} row f parts shape acts is same h paid flat own is_check grown =
     let i = instruction row span span in record {
       rows = h.rows ++ i ∷ [];
       grown = grown1 old h.rows (i ∷ []) h.grown grown;
@@ -177,6 +194,8 @@ last_check {old} {mid} {new} {span} {kind} {e} row f parts shape acts is same h 
             goes_on = ap is_over both ∙ not_over (map shapes_of h.rows) (map shapes_of (i ∷ [])) on;
           };
       weight = λ ends. paid;
+      spans = value_row row span flat (covers_as own) h.spans;
+      arranged = λ ends. arranged_simple e row is_check (valued h);
     }
   where
     as_shapes : (o : Option Place) → ((q : Place) → path_shape (map shapes_of (instruction row span span ∷ [])) q ≡ all_shapes (map shapes_of (instruction row span span ∷ [])) q)
@@ -191,7 +210,8 @@ last_time {old} {mid} {new} {span} {kind} {e} is h grown =
     (λ world x env. row_done world kinds.Time span span _ (state (x ∷ []) env) (steps.time_done world))
     (λ world env. ap (λ k. kind_leaves world k span env) is ∙ source.time_leaves world e span env)
     (λ world x env after done. passed_same span (time_outcome world.context x) env after done) h
-    (paid_at_end kind kinds.Time span steps.time_weighs refl (ap pays_at is ∙ pricing.time_pays e) (λ n. omega arith) (λ n. omega arith) h.light) grown
+    (paid_at_end kind kinds.Time span steps.time_weighs refl (ap pays_at is ∙ pricing.time_pays e) (λ n. omega arith) (λ n. omega arith) h.light)
+    steps.time_spans (ap own_spans_at is ∙ spanned.time_spanned e) (checks_time e is) grown
 
 pub last_age : {old mid new : List SlotInstr} {span : Span} {kind : StmtKind Slot Ty} {e : TypedExpr} → kind ≡ stmts.Age e
     → LowersElement old mid span e → new ≡ mid ++ instruction kinds.Age span span ∷ [] → LowersLastKind old new kind span
@@ -200,7 +220,8 @@ last_age {old} {mid} {new} {span} {kind} {e} is h grown =
     (λ world x env. row_done world kinds.Age span span _ (state (x ∷ []) env) (steps.age_done world))
     (λ world env. ap (λ k. kind_leaves world k span env) is ∙ source.age_leaves world e span env)
     (λ world x env after done. passed_same span (age_outcome world.context x) env after done) h
-    (paid_at_end kind kinds.Age span steps.age_weighs refl (ap pays_at is ∙ pricing.age_pays e) (λ n. omega arith) (λ n. omega arith) h.light) grown
+    (paid_at_end kind kinds.Age span steps.age_weighs refl (ap pays_at is ∙ pricing.age_pays e) (λ n. omega arith) (λ n. omega arith) h.light)
+    steps.age_spans (ap own_spans_at is ∙ spanned.age_spanned e) (checks_age e is) grown
 
 pub last_require : {old mid new : List SlotInstr} {span : Span} {kind : StmtKind Slot Ty} {e : TypedExpr} → kind ≡ stmts.Require e
     → LowersElement old mid span e → new ≡ mid ++ instruction kinds.Require span span ∷ [] → LowersLastKind old new kind span
@@ -209,7 +230,8 @@ last_require {old} {mid} {new} {span} {kind} {e} is h grown =
     (λ world x env. row_done world kinds.Require span span _ (state (x ∷ []) env) (steps.require_done world))
     (λ world env. ap (λ k. kind_leaves world k span env) is ∙ source.require_leaves world e span env)
     (λ world x env after done. checked_same (truth_of x) span env after done) h
-    (paid_at_end kind kinds.Require span steps.require_weighs refl (ap pays_at is ∙ pricing.require_pays e) (λ n. omega arith) (λ n. omega arith) h.light) grown
+    (paid_at_end kind kinds.Require span steps.require_weighs refl (ap pays_at is ∙ pricing.require_pays e) (λ n. omega arith) (λ n. omega arith) h.light)
+    steps.require_spans (ap own_spans_at is ∙ spanned.require_spanned e) (requires_it e is) grown
 
 -- ---- the last choice
 
@@ -263,8 +285,10 @@ last_choice : {old mid new a b : List SlotInstr} {span : Span} {kind : StmtKind 
     → ((slots : List Slot) → is_scoped us slots ≡ true → may_end_kind kind ≡ true → IsBranch b (leave_all us) slots)
     → (o : Option (List Pays)) → pays_at kind ≡ if_pays (price_of e) (map pays_of ss) o → unwrap_or o [] ≡ map pays_of us
     → (may_end_kind kind ≡ true → Within a (path_pays (map pays_of ss))) → (may_end_kind kind ≡ true → Within b (path_pays (map pays_of us)))
+    → own_spans_at kind ≡ value_spans e ++ (joined (map own_spans ss) ++ joined (map own_spans us)) → SpansAmong a (joined (map own_spans ss)) → SpansAmong b (joined (map own_spans us))
+    → ((rows : List SlotInstr) → Valued rows span e → may_end_kind kind ≡ true → ArrangedKind true kind span (rows ++ instruction (kinds.If a b) span span ∷ []))
     → new ≡ mid ++ instruction (kinds.If a b) span span ∷ [] → LowersLastKind old new kind span
-last_choice {old} {mid} {new} {a} {b} {span} {kind} {e} ss us parts is h ya na o pays other wa wb grown =
+last_choice {old} {mid} {new} {a} {b} {span} {kind} {e} ss us parts is h ya na o pays other wa wb own sa sb arranges grown =
     let i = instruction (kinds.If a b) span span in
     let x : Shapes = record { inner = then_shape (takes_all 1) (choice_shape (map shapes_of a) (map shapes_of b)); last = then_shape (takes_all 1) (fork_shape (map shapes_of a) (map shapes_of b)); is_end = false; may_end = rows_end (map shapes_of a) && other_ends (map shapes_of b) } in
     let row : shapes_at (kinds.If a b) ≡ x = steps.if_stands a b in
@@ -299,6 +323,8 @@ last_choice {old} {mid} {new} {a} {b} {span} {kind} {e} ss us parts is h ya na o
             goes_on = ap is_over both ∙ not_over (map shapes_of h.rows) (map shapes_of (i ∷ [])) on;
           };
       weight = λ ends. fork_at_end kind span (map pays_of ss) (map pays_of us) o pays other h.light (wa ends) (wb ends);
+      spans = fork_spanned own h.spans (spanned_among sa) (spanned_among sb);
+      arranged = λ ends. arranges h.rows (valued h) ends;
     }
 
 pub last_if_only : {old mid new a : List SlotInstr} {span : Span} {kind : StmtKind Slot Ty} {e : TypedExpr} {ss : List TypedStmt} → kind ≡ stmts.If e ss None
@@ -312,7 +338,11 @@ last_if_only {old} {mid} {new} {a} {span} {kind} {e} {ss} is h ya grown =
     (λ slots ok ends. no_branch slots) None (ap pays_at is ∙ pricing.if_only_pays e ss) refl
     (λ ends. let same : ya.rows ≡ a = sym ya.grown in
     subst (λ l. Within l (path_pays (map pays_of ss))) same (ya.weight (and_left (last_of false (map may_end ss)) true (sym (ap may_end_kind is ∙ scoped.if_only_ends e ss) ∙ ends))).within)
-    (λ ends. none_within) grown
+    (λ ends. none_within)
+    (ap own_spans_at is ∙ spanned.if_only_spanned e ss) (subst (λ l. SpansAmong l (joined (map own_spans ss))) (sym ya.grown) ya.spans) among_none
+    (λ rows v ends. arranged_only is v
+    (arranged_at_end (sym ya.grown) (ya.arranged (and_left (last_of false (map may_end ss)) true (sym (ap may_end_kind is ∙ scoped.if_only_ends e ss) ∙ ends)))) (arranged_at_end refl nothing_left))
+    grown
 
 pub last_if_else : {old mid new a b : List SlotInstr} {span : Span} {kind : StmtKind Slot Ty} {e : TypedExpr} {ss us : List TypedStmt} → kind ≡ stmts.If e ss (Some us)
     → LowersElement old mid span e → LowersPath [] a ss → LowersPath [] b us → new ≡ mid ++ instruction (kinds.If a b) span span ∷ [] → LowersLastKind old new kind span
@@ -328,4 +358,9 @@ last_if_else {old} {mid} {new} {a} {b} {span} {kind} {e} {ss} {us} is h ya na gr
     (Some (map pays_of us)) (ap pays_at is ∙ pricing.if_else_pays e ss us) refl
     (λ ends. subst (λ l. Within l (path_pays (map pays_of ss))) (sym ya.grown) (ya.weight (and_left (last_of false (map may_end ss)) (last_of false (map may_end us)) (sym end ∙ ends))).within)
     (λ ends. subst (λ l. Within l (path_pays (map pays_of us))) (sym na.grown) (na.weight (and_right (last_of false (map may_end ss)) (last_of false (map may_end us)) (sym end ∙ ends))).within)
+    (ap own_spans_at is ∙ spanned.if_else_spanned e ss us) (subst (λ l. SpansAmong l (joined (map own_spans ss))) (sym ya.grown) ya.spans)
+    (subst (λ l. SpansAmong l (joined (map own_spans us))) (sym na.grown) na.spans)
+    (λ rows v ends. arranged_else is v
+    (arranged_at_end (sym ya.grown) (ya.arranged (and_left (last_of false (map may_end ss)) (last_of false (map may_end us)) (sym end ∙ ends))))
+    (arranged_at_end (sym na.grown) (na.arranged (and_right (last_of false (map may_end ss)) (last_of false (map may_end us)) (sym end ∙ ends)))))
     grown

@@ -16,10 +16,11 @@ use Rattle.slot_code.specs.declared.slots.SlotInstr.{SlotInstr}
 use Rattle.slot_code.specs.declared.slots.SlotKind.TheVariants as kinds
 use Rattle.slot_expressions.specs.declared.expressions.Width.TheVariants as widths
 use Rattle.slot_expressions.specs.Pieces.{LowersElement, LowersGiven, instruction}
-use Rattle.slot_expressions.proofs.Single.{and_left, and_right}
+use Rattle.slot_expressions.proofs.Tests.{and_left, and_right}
 use Rattle.slot_lowering.specs.Scoped.{may_end_kind, has_values, IsSplit, ReadyStmt, ReadyBody}
 use Rattle.slot_lowering.specs.Statements.{LowersKind, LowersRun, LowersLastKind, LowersPath, EndsNames, LowersKindAt, LowersStmtAt, LowersBodyAt, LowersBlockAt, GoesOn, LeftBody, names_of}
 use Rattle.slot_lowering.proofs.ScopedSteps as scoped
+use Rattle.slot_lowering.proofs.Spanning.{among_none}
 use Rattle.slot_lowering.proofs.Simple.{lowers_define, lowers_pair, lowers_assign, lowers_time, lowers_age, lowers_require}
 use Rattle.slot_lowering.proofs.Blocks.{lowers_stmt, run_none, run_more, lowers_block, no_block, lowers_if_only, lowers_if_else}
 use Rattle.slot_lowering.proofs.Paths.{path_more, path_last, last_stmt, last_time, last_age, last_require, last_if_only, last_if_else}
@@ -39,6 +40,8 @@ never_last {old} {new} {kind} {span} never h = record {
   grown = h.grown;
   does = λ slots ok ends. let both : false ≡ true = sym never ∙ ends in absurd cc;
   weight = λ ends. let both : false ≡ true = sym never ∙ ends in absurd cc;
+  spans = h.spans;
+  arranged = λ ends. let both : false ≡ true = sym never ∙ ends in absurd cc;
 }
 
 pub placed_define : {b : Bool} {old mid new : List SlotInstr} {span : Span} {kind : StmtKind Slot Ty} {t : Ty} {constant : Bool} {slot : Slot} {at : Span} {e : TypedExpr} → kind ≡ stmts.Define t constant slot at e
@@ -117,6 +120,8 @@ path_none now final same = record {
   grown = sym same ∙ sym (append-nil now);
   does = λ slots ok ends. let never : false ≡ true = ends in absurd cc;
   weight = λ ends. let never : false ≡ true = ends in absurd cc;
+  spans = among_none;
+  arranged = λ ends. let never : false ≡ true = ends in absurd cc;
 }
 
 goes_on : (now final : List SlotInstr) (body : List TypedStmt) → GoesOn now final body → LowersPath now final body

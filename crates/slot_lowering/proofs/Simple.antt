@@ -37,13 +37,23 @@ use Rattle.slot_expressions.specs.declared.expressions.Width.TheVariants as widt
 use Rattle.slot_expressions.proofs.ReadySteps as ready
 use Rattle.slot_lowering.specs.Room.{pays_at}
 use Rattle.slot_lowering.specs.Weighed.{Inside}
+use Rattle.slot_lowering.specs.Spans.{own_spans_at}
 use Rattle.slot_lowering.proofs.ScopedSteps as scoped
 use Rattle.slot_lowering.proofs.PricingSteps as pricing
+use Rattle.slot_lowering.proofs.SpanSteps as spanned
+use Rattle.slot_lowering.proofs.Spanning.{value_row}
+use Rattle.slot_expressions.proofs.SpanSteps as values
+use Rattle.slot_expressions.proofs.Spanning.{covers_as, covers_then, covers_rest}
+use Rattle.slot_expressions.specs.Spans.{own_spans as value_spans}
+use Rattle.slot_code.specs.Spans.{spans_at}
 use Rattle.slot_lowering.proofs.Weights.{paid_inside, light_parts}
 use Rattle.slot_expressions.proofs.Puts.{run_append, run_one}
 use Rattle.slot_expressions.proofs.Standing.{if_true, shape_append, row_shape, seen_now}
-use Rattle.slot_expressions.proofs.Single.{and_left, and_right, grown1}
+use Rattle.slot_expressions.proofs.Tests.{and_left, and_right}
+use Rattle.slot_expressions.proofs.Single.{grown1}
 use Rattle.slot_expressions.proofs.Acts.{row_done}
+use Rattle.slot_lowering.specs.Arranged.{IsSimple, defines as is_define, defines_both, assigns as is_assign, checks_time, checks_age, requires_it, simple as arranged_simple}
+use Rattle.slot_lowering.proofs.Arranging.{valued, both_valued}
 
 -- ---- checking spans
 
@@ -182,6 +192,8 @@ lowers_define {old} {mid} {new} {span} {kind} {t} {constant} {slot} {at} {e} is 
           ready);
       weight = paid_inside kind (kinds.Define slot) span (steps.define_weighs slot) (ap pays_at is ∙ pricing.define_pays t constant slot at e)
           (λ n. record { names_are = refl; bytes = omega arith; ops = omega arith }) h.light;
+      spans = value_row (kinds.Define slot) span (steps.define_spans slot) (covers_rest (covers_as (ap own_spans_at is ∙ spanned.define_spanned t constant slot at e))) h.spans;
+      arranged = arranged_simple e (kinds.Define slot) (is_define t constant slot at e is) (valued h);
     }
   where
     same_env : (a b : Env) (r : Result Env Failure) → r ≡ Ok a → r ≡ Ok b → a ≡ b
@@ -225,6 +237,8 @@ lowers_assign {old} {mid} {new} {span} {kind} {slot} {e} is h grown =
           (and_left (value_scoped e slots) (has slot slots) both));
       weight = paid_inside kind (kinds.Assign slot) span (steps.assign_weighs slot) (ap pays_at is ∙ pricing.assign_pays slot e)
           (λ n. record { names_are = omega arith; bytes = omega arith; ops = omega arith }) h.light;
+      spans = value_row (kinds.Assign slot) span (steps.assign_spans slot) (covers_as (ap own_spans_at is ∙ spanned.assign_spanned slot e)) h.spans;
+      arranged = arranged_simple e (kinds.Assign slot) (is_assign slot e is) (valued h);
     }
 
 -- ---- checks
@@ -252,14 +266,17 @@ check_lowered : {old mid new : List SlotInstr} {span : Span} {kind : StmtKind Sl
     → ((world : World) (x : List ℕ) (env : Env) → act_of world (instruction row span span) (state (x ∷ []) env) ≡ (f world x env >>= λ after. Ok (state [] after)))
     → ((world : World) (env : Env) → kind_leaves world kind span env ≡ (element (value_of world env e) >>= λ x. f world x env))
     → ((world : World) (x : List ℕ) (env after : Env) → f world x env ≡ Ok after → env ≡ after)
-    → (h : LowersElement old mid span e) → Inside (h.rows ++ instruction row span span ∷ []) (pays_at kind).names (pays_at kind).inner → new ≡ mid ++ instruction row span span ∷ [] → LowersKind old new kind span
-check_lowered {old} {mid} {new} {span} {kind} {e} row f parts shape acts is same h paid grown = record {
+    → (h : LowersElement old mid span e) → Inside (h.rows ++ instruction row span span ∷ []) (pays_at kind).names (pays_at kind).inner → spans_at row ≡ [] → own_spans_at kind ≡ value_spans e → IsSimple kind e row
+    → new ≡ mid ++ instruction row span span ∷ [] → LowersKind old new kind span
+check_lowered {old} {mid} {new} {span} {kind} {e} row f parts shape acts is same h paid flat own is_check grown = record {
   rows = h.rows ++ instruction row span span ∷ [];
   grown = grown1 old h.rows (instruction row span span ∷ []) h.grown grown;
   does = λ slots ok.
       subst (λ (p : Part). Does (h.rows ++ instruction row span span ∷ []) (leaves kind span) slots p.names) (sym parts)
       (check_does row f (leaves kind span) slots shape acts is same h (sym (ap (λ (p : Part). p.scoped slots) parts) ∙ ok));
   weight = paid;
+  spans = value_row row span flat (covers_as own) h.spans;
+  arranged = arranged_simple e row is_check (valued h);
 }
 
 pub lowers_time : {old mid new : List SlotInstr} {span : Span} {kind : StmtKind Slot Ty} {e : TypedExpr} → kind ≡ stmts.Time e
@@ -269,7 +286,8 @@ lowers_time {old} {mid} {new} {span} {kind} {e} is h grown =
     (λ world x env. row_done world kinds.Time span span _ (state (x ∷ []) env) (steps.time_done world))
     (λ world env. ap (λ k. kind_leaves world k span env) is ∙ source.time_leaves world e span env)
     (λ world x env after done. passed_same span (time_outcome world.context x) env after done) h
-    (paid_inside kind kinds.Time span steps.time_weighs (ap pays_at is ∙ pricing.time_pays e) (λ n. record { names_are = omega arith; bytes = omega arith; ops = omega arith }) h.light) grown
+    (paid_inside kind kinds.Time span steps.time_weighs (ap pays_at is ∙ pricing.time_pays e) (λ n. record { names_are = omega arith; bytes = omega arith; ops = omega arith }) h.light)
+    steps.time_spans (ap own_spans_at is ∙ spanned.time_spanned e) (checks_time e is) grown
 
 pub lowers_age : {old mid new : List SlotInstr} {span : Span} {kind : StmtKind Slot Ty} {e : TypedExpr} → kind ≡ stmts.Age e
     → LowersElement old mid span e → new ≡ mid ++ instruction kinds.Age span span ∷ [] → LowersKind old new kind span
@@ -278,7 +296,8 @@ lowers_age {old} {mid} {new} {span} {kind} {e} is h grown =
     (λ world x env. row_done world kinds.Age span span _ (state (x ∷ []) env) (steps.age_done world))
     (λ world env. ap (λ k. kind_leaves world k span env) is ∙ source.age_leaves world e span env)
     (λ world x env after done. passed_same span (age_outcome world.context x) env after done) h
-    (paid_inside kind kinds.Age span steps.age_weighs (ap pays_at is ∙ pricing.age_pays e) (λ n. record { names_are = omega arith; bytes = omega arith; ops = omega arith }) h.light) grown
+    (paid_inside kind kinds.Age span steps.age_weighs (ap pays_at is ∙ pricing.age_pays e) (λ n. record { names_are = omega arith; bytes = omega arith; ops = omega arith }) h.light)
+    steps.age_spans (ap own_spans_at is ∙ spanned.age_spanned e) (checks_age e is) grown
 
 pub lowers_require : {old mid new : List SlotInstr} {span : Span} {kind : StmtKind Slot Ty} {e : TypedExpr} → kind ≡ stmts.Require e
     → LowersElement old mid span e → new ≡ mid ++ instruction kinds.Require span span ∷ [] → LowersKind old new kind span
@@ -287,7 +306,8 @@ lowers_require {old} {mid} {new} {span} {kind} {e} is h grown =
     (λ world x env. row_done world kinds.Require span span _ (state (x ∷ []) env) (steps.require_done world))
     (λ world env. ap (λ k. kind_leaves world k span env) is ∙ source.require_leaves world e span env)
     (λ world x env after done. checked_same (truth_of x) span env after done) h
-    (paid_inside kind kinds.Require span steps.require_weighs (ap pays_at is ∙ pricing.require_pays e) (λ n. record { names_are = omega arith; bytes = omega arith; ops = omega arith }) h.light) grown
+    (paid_inside kind kinds.Require span steps.require_weighs (ap pays_at is ∙ pricing.require_pays e) (λ n. record { names_are = omega arith; bytes = omega arith; ops = omega arith }) h.light)
+    steps.require_spans (ap own_spans_at is ∙ spanned.require_spanned e) (requires_it e is) grown
 
 -- ---- definitions of two names
 
@@ -366,6 +386,9 @@ lowers_pair {old} {mid} {new} {span} {kind} {left} {right} {e} is split h grown 
           });
       weight = paid_inside kind (kinds.DefinePair l r) span (steps.define_pair_weighs l r) (ap pays_at is ∙ pricing.pair_pays left right e)
           (λ n. record { names_are = refl; bytes = omega arith; ops = omega arith }) (light_parts (pricing.split_pays e split) t.light);
+      spans = value_row (kinds.DefinePair l r) span (steps.define_pair_spans l r)
+          (covers_then (covers_rest (covers_rest (covers_as (ap own_spans_at is ∙ spanned.pair_spanned left right e)))) (covers_as (values.whole_spanned e))) t.spans;
+      arranged = arranged_simple e (kinds.DefinePair l r) (defines_both left right e is) (both_valued h);
     }
   where
     neither : (b c : Bool) → (b || false) ≡ false → (c || false) ≡ false → (b || (c || false)) ≡ false

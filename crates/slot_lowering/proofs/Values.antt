@@ -24,7 +24,7 @@ use Rattle.slot_expressions.specs.Ready.{any_name, is_ready, Ready}
 use Rattle.slot_expressions.specs.Pieces.{LowersElement, LowersGiven, instruction}
 use Rattle.slot_expressions.proofs.Readies.{whole_readies, split_first, split_second}
 use Rattle.slot_expressions.proofs.Lowered.{lowers_split, lowers_given}
-use Rattle.slot_expressions.proofs.Single.{and_left, and_right}
+use Rattle.slot_expressions.proofs.Tests.{and_left, and_right}
 use Rattle.slot_lowering.specs.Scoped.{is_split, is_split_layer, kind_ready, stmt_ready, has_values, has_values_kind, ReadyStmt, ReadyStmtKind, ReadyBody, IsSplit}
 
 abbrev TypedStmt : Type 0

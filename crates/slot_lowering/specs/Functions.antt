@@ -1,8 +1,10 @@
 -- Which contracts are lowered, and what their functions become.
 use Rattle.std.specs.Prelude.{◌≡◌, ◌≤◌, ℕ, ◌+◌, ◌==◌, nat_le, Bool, true, ◌&&◌, List, [], ◌∷◌, ◌++◌, length, map, drop}
 use Rattle.std.specs.List.{list_all, AllZip}
+use Rattle.cash_base.specs.declared.place.Span.{Span}
 use Rattle.cash_base.specs.declared.place.Slot.{Slot}
 use Rattle.tx_context.specs.World.{World}
+use Rattle.cash_tree.specs.Spans.{nothing as no_name, function_spans}
 use Rattle.cash_tree.specs.declared.Ty.{Ty}
 use Rattle.cash_tree.specs.declared.Param.{Param}
 use Rattle.cash_tree.specs.declared.Contract.{Contract}
@@ -13,9 +15,11 @@ use Rattle.slot_code.specs.declared.slots.SlotFunction.{SlotFunction}
 use Rattle.slot_code.specs.Meaning.{slot_outcome}
 use Rattle.slot_code.specs.Shape.{IsWellFormed, first_slots, most_slots}
 use Rattle.slot_code.specs.Weight.{weight_of}
+use Rattle.slot_code.specs.Spans.{slot_spans}
 use Rattle.slot_lowering.specs.Scoped.{has_values, ends_rightly}
 use Rattle.slot_lowering.specs.Room.{function_price}
 use Rattle.slot_lowering.specs.Statements.{is_scoped}
+use Rattle.slot_lowering.specs.Arranged.{ArrangedBody}
 
 -- ---- the condition
 
@@ -61,11 +65,21 @@ pub record IsWeighed (contract : Contract Slot Ty) (f : Function Slot Ty) (g : S
   pub bytes : (weight_of g).bytes ≤ (function_price contract f).bytes
   pub ops : (weight_of g).ops ≤ (function_price contract f).ops
 
+-- Each span that stands in it is one of the function's: a test that holds of all of those holds of it.
+pub record KeepsSpans (f : Function Slot Ty) (g : SlotFunction) : Type 0 where
+  pub all : (test : Span → Bool) → list_all test (function_spans no_name f) ≡ true → list_all test (slot_spans g) ≡ true
+
+-- Statement by statement, its rows stand as the function's statements do.
+pub record Arranges (f : Function Slot Ty) (g : SlotFunction) : Type 0 where
+  pub is : ArrangedBody true f.body g.body
+
 pub record IsLowered (contract : Contract Slot Ty) (f : Function Slot Ty) (g : SlotFunction) : Type 0 where
   pub counts : HasCounts contract f g
   pub shape : IsWellFormed g
   pub run : RunsAs contract f g
   pub weight : IsWeighed contract f g
+  pub spans : KeepsSpans f g
+  pub arranged : Arranges f g
 
 -- the functions in order
 pub record AreLowered (contract : Contract Slot Ty) (functions : List (Function Slot Ty)) (lowered : List SlotFunction) : Type 0 where

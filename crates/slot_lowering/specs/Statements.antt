@@ -1,9 +1,11 @@
--- What the slot code of statements does: what stands in the slots behind it, where the values stand, and what it weighs.
+-- What the slot code of statements does: what stands in the slots behind it, where the values stand, what it weighs, and
+-- which spans stand in it.
 use Rattle.std.specs.Prelude.{◌≡◌, ℕ, Bool, true, false, is_some, List, [], ◌∷◌, ◌++◌, map, drop, Option, Some, Result, Ok, Err}
 use Rattle.cash_base.specs.declared.place.Span.{Span}
 use Rattle.cash_base.specs.declared.place.Slot.{Slot}
 use Rattle.cash_base.specs.Failing.{◌>>=◌}
 use Rattle.tx_context.specs.World.{World}
+use Rattle.cash_tree.specs.Nodes.{joined}
 use Rattle.cash_tree.specs.declared.Ty.{Ty}
 use Rattle.cash_tree.specs.declared.Stmt.{Stmt}
 use Rattle.cash_tree.specs.declared.StmtKind.{StmtKind}
@@ -14,9 +16,12 @@ use Rattle.slot_code.specs.declared.slots.SlotKind.TheVariants as kinds
 use Rattle.slot_code.specs.Meaning.{state, run_of}
 use Rattle.slot_code.specs.Shape.{Place, all_shapes, path_shape, is_over, ends_rightly as rows_end, other_ends as other_rows_end, shapes_of, has, has_span}
 use Rattle.slot_expressions.specs.Pieces.{instruction}
+use Rattle.slot_expressions.specs.Spans.{SpannedBy}
 use Rattle.slot_lowering.specs.Scoped.{part_of, part_of_kind, all_names, all_scoped, may_end, may_end_kind, ends_rightly, ReadyBody}
 use Rattle.slot_lowering.specs.Room.{all_pay, block_pays, path_pays, defined, pays_of, pays_at}
 use Rattle.slot_lowering.specs.Weighed.{Inside, AtEnd}
+use Rattle.slot_lowering.specs.Spans.{SpansAmong, own_spans, own_spans_at}
+use Rattle.slot_lowering.specs.Arranged.{ArrangedKind, ArrangedBlock, ArrangedBody}
 
 -- exactly these slots have a value
 abbrev pub Holds : List Slot → Env → Type 0
@@ -67,12 +72,16 @@ pub record LowersKind (old new : List SlotInstr) (kind : StmtKind Slot Ty) (span
   pub grown : new ≡ old ++ rows
   pub does : (slots : List Slot) → (part_of_kind kind).scoped slots ≡ true → Does rows (leaves kind span) slots (part_of_kind kind).names
   pub weight : Inside rows (pays_at kind).names (pays_at kind).inner
+  pub spans : SpannedBy rows span (own_spans_at kind)
+  pub arranged : ArrangedKind false kind span rows
 
 pub record LowersStmt (old new : List SlotInstr) (s : Stmt Slot Ty) : Type 0 where
   pub rows : List SlotInstr
   pub grown : new ≡ old ++ rows
   pub does : (slots : List Slot) → (part_of s).scoped slots ≡ true → Does rows (λ world. env_after world s) slots (part_of s).names
   pub weight : Inside rows (pays_of s).names (pays_of s).inner
+  pub spans : SpansAmong rows (own_spans s)
+  pub arranged : ArrangedKind false s.kind s.span rows
 
 -- ... statements, one after the other
 pub record LowersRun (old new : List SlotInstr) (body : List (Stmt Slot Ty)) : Type 0 where
@@ -80,6 +89,8 @@ pub record LowersRun (old new : List SlotInstr) (body : List (Stmt Slot Ty)) : T
   pub grown : new ≡ old ++ rows
   pub does : (slots : List Slot) → is_scoped body slots ≡ true → Does rows (leave_all body) slots (names_of body)
   pub weight : Inside rows (defined (map pays_of body)) (all_pay (map pays_of body))
+  pub spans : SpansAmong rows (joined (map own_spans body))
+  pub arranged : ArrangedBody false body rows
 
 -- ---- blocks
 
@@ -107,6 +118,8 @@ pub record IsBlock (rows : List SlotInstr) (doing : World → Doing) (slots : Li
 pub record LowersBlock (code : List SlotInstr) (body : List (Stmt Slot Ty)) (checking : Span) : Type 0 where
   pub does : (slots : List Slot) → is_scoped body slots ≡ true → IsBlock code (leave_all body) slots checking
   pub weight : Inside code 0 (block_pays (map pays_of body))
+  pub spans : SpannedBy code checking (joined (map own_spans body))
+  pub arranged : ArrangedBlock false body checking code
 
 -- ---- paths
 
@@ -128,12 +141,16 @@ pub record LowersLast (old new : List SlotInstr) (s : Stmt Slot Ty) : Type 0 whe
   pub grown : new ≡ old ++ rows
   pub does : (slots : List Slot) → (part_of s).scoped slots ≡ true → may_end s ≡ true → IsPath rows (λ world. env_after world s) slots
   pub weight : may_end s ≡ true → AtEnd rows (pays_of s).last
+  pub spans : SpansAmong rows (own_spans s)
+  pub arranged : may_end s ≡ true → ArrangedKind true s.kind s.span rows
 
 pub record LowersPath (old new : List SlotInstr) (body : List (Stmt Slot Ty)) : Type 0 where
   pub rows : List SlotInstr
   pub grown : new ≡ old ++ rows
   pub does : (slots : List Slot) → is_scoped body slots ≡ true → ends_rightly body ≡ true → IsPath rows (leave_all body) slots
   pub weight : ends_rightly body ≡ true → AtEnd rows (path_pays (map pays_of body))
+  pub spans : SpansAmong rows (joined (map own_spans body))
+  pub arranged : ends_rightly body ≡ true → ArrangedBody true body rows
 
 -- ... and what stands for a missing `else`
 pub record IsBranch (rows : List SlotInstr) (doing : World → Doing) (slots : List Slot) : Type 0 where
@@ -146,6 +163,8 @@ pub record LowersLastKind (old new : List SlotInstr) (kind : StmtKind Slot Ty) (
   pub grown : new ≡ old ++ rows
   pub does : (slots : List Slot) → (part_of_kind kind).scoped slots ≡ true → may_end_kind kind ≡ true → IsPath rows (leaves kind span) slots
   pub weight : may_end_kind kind ≡ true → AtEnd rows (pays_at kind).last
+  pub spans : SpannedBy rows span (own_spans_at kind)
+  pub arranged : may_end_kind kind ≡ true → ArrangedKind true kind span rows
 
 -- ---- where a path may end
 

@@ -4,13 +4,14 @@ use anyhow::{Result, bail};
 use cash_compile::Refusal;
 use cash_compile::reading::typed_contract_of;
 use cash_parser::ParseFault;
-use cashc::refusal_text::refusal_text;
+use source_texts::refusal_text::refusal_text;
 use std::alloc::Global;
 
 /// The longest source that is handed on.
 const LONGEST: usize = 1_000_000;
 
 /// `accepted` for a well-typed source, or the line that refuses it.
+#[tactic(auto, using(source_texts::proofs::Refused::uncompiled))]
 pub fn answer(alloc: Global, source: &[u8]) -> Result<String> {
     if source.len() > LONGEST {
         bail!("a source of over {LONGEST} bytes");

@@ -76,7 +76,7 @@ pub fn answer(alloc: Global, source: &[u8]) -> Result<String> {
     match typed_contract_of(alloc, source) {
         Ok(_) => Ok(String::from_str(alloc, "typed")?),
         Err(Refusal::Typing(fault)) => fault_text(alloc, fault),
-        Err(refusal) => bail!("{refusal:?}"),
+        Err(_) => bail!("a source that is refused before its types"),
     }
 }
 

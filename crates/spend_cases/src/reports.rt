@@ -1,14 +1,16 @@
 //! Files of arguments, spends and reports.
 
+ghost use Rattle.artifact_json.specs.Artifact.{HasFewInputs};
+
 use crate::contracts::{SOURCE, equality};
 use anyhow::{Result, bail};
+use artifact_json::Program;
 use bch_vm::{Machine, MachineCause, MachineOutcome, Which};
 use cash_base::{Cause, Span};
+use spend_case_files::files::stopped;
 use spend_case_files::text::{bytes, elements, split, stop_text};
 use spend_debug::spend_lines::read;
-use spend_debug::{
-    Report, Spend, SpendStop, build_stop, debug, line_stop, plain_frame, report_text,
-};
+use spend_debug::{Report, Spend, debug, line_stop, plain_frame, report_text};
 use std::alloc::Global;
 use tx_context::Verdicts;
 
@@ -36,14 +38,25 @@ pub fn spend(alloc: Global, case: &str) -> Result<String> {
     let (ctor, args) = split(rest);
     let spend = spend_of(alloc, chosen, ctor, args)?;
     let program = equality(alloc, code == "NUMEQUAL", places == "placed")?;
-    let Ok(mut machine) = Machine::new(alloc) else {
+    report_of(alloc, &program, &spend)
+}
+
+fn report_of(alloc: Global, program: &Program, spend: &Spend) -> Result<String>
+    requires { HasFewInputs program.now }
+{
+    let mut machine = machine(alloc)?;
+    match debug(alloc, program, spend, &mut machine) {
+        Ok(report) => told(alloc, SOURCE, &report),
+        Err(stop) => stopped(alloc, stop),
+    }
+}
+
+/// A machine at the beginning of a spend.
+pub fn machine(alloc: Global) -> Result<Machine> {
+    let Ok(machine) = Machine::new(alloc) else {
         bail!("out of memory");
     };
-    match debug(alloc, &program, &spend, &mut machine) {
-        Ok(report) => told(alloc, SOURCE, &report),
-        Err(SpendStop::Build(fault)) => stop_text(alloc, build_stop(fault)),
-        Err(SpendStop::Memory) => bail!("out of memory"),
-    }
+    Ok(machine)
 }
 
 fn spend_of(alloc: Global, chosen: &str, ctor: &str, args: &str) -> Result<Spend> {

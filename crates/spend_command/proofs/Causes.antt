@@ -1,18 +1,18 @@
 -- What a command on an artifact and a spend file shows or tells, joined from its parts.
-use Rattle.std.proofs.Common.{◌≡◌, ℕ, ◌≤◌, ◌<◌, ◌⊎◌, List, Option, inl, inr, subst, arith}
+use Rattle.std.proofs.Common.{◌≡◌, ℕ, ◌≤◌, List, Option, inl, inr, subst, arith}
 use Rattle.cash_base.specs.Outside.{Files, Rose}
 use Rattle.artifact_json.specs.Artifact.{Artifact}
 use Rattle.command_files.specs.Files.{IsFile}
 use Rattle.command_files.specs.declared.Stop.{Stop}
 use Rattle.command_files.specs.declared.Stop.TheVariants.{Refused, Unread, Memory}
-use Rattle.spend_command.specs.Spent.{IsArtifact, IsReported, IsSpent, IsNoArtifact, IsNoSpend, HasFileRefusal, HasSpendCause}
+use Rattle.spend_command.specs.Spent.{IsArtifact, IsReported, IsSpent, IsNoSpend, HasArtifactCause, HasFileRefusal, HasSpendCause}
 
-rose_before : (before mid now : ℕ) → before ≤ mid → Rose mid now → Rose before now
+pub rose_before : (before mid now : ℕ) → before ≤ mid → Rose mid now → Rose before now
 rose_before before mid now later (inl risen) = inl (omega (arith, later, risen))
 rose_before before mid now later (inr last) = inr last
 
 pub artifact_stopped : (files : Option Files) (artifact spend : List ℕ) (before now : ℕ) (stop : Stop)
-    → HasFileRefusal IsNoArtifact files artifact before now stop → HasSpendCause files artifact spend before now stop
+    → HasArtifactCause files artifact before now stop → HasSpendCause files artifact spend before now stop
 artifact_stopped files artifact spend before now (Refused status text) cause = (cause.0, inl cause.1)
 artifact_stopped files artifact spend before now Unread (inl risen) = inl risen
 artifact_stopped files artifact spend before now Unread (inr missing) = inr (inl missing)

@@ -1,5 +1,5 @@
 -- What is shown and told of a spend of an artifact, as the files of its names have them.
-use Rattle.std.specs.Prelude.{◌≡◌, ℕ, ◌≤◌, ◌⊎◌, List, length, codes, Option, Result, Ok, Err}
+use Rattle.std.specs.Prelude.{◌≡◌, ℕ, ◌≤◌, ◌⊎◌, List, length, codes, Option, Ok, Err}
 use Rattle.cash_base.specs.Outside.{Files, Rose}
 use Rattle.bch_vm.specs.declared.outcome.MachineOutcome.{MachineOutcome}
 use Rattle.bch_vm.specs.declared.outcome.MachineOutcome.TheVariants as machine
@@ -29,7 +29,11 @@ report_status told = outcome_status told.outcome
 
 -- ---- the files
 
--- an artifact, and a spend file, have at most so many bytes
+-- an artifact has at most so many bytes
+abbrev pub max_artifact_len : ℕ
+max_artifact_len = 1048576
+
+-- ... and a spend file so many
 abbrev pub max_input_len : ℕ
 max_input_len = 4194304
 
@@ -61,11 +65,15 @@ IsSpent files artifact_name spend_name status text =
 
 -- ---- what is told of a refusal
 
--- a file is longer than it may be, or it isn't, and its bytes are refused so
+-- a file has more than so many bytes, or it hasn't, and its bytes are refused so
+abbrev pub IsRefusalUpTo : ℕ → (List ℕ → List ℕ → Type 0) → Option Files → List ℕ → List ℕ → Type 0
+IsRefusalUpTo most IsBytesRefusal files name text =
+    (IsLonger files name most × (text ≡ input_too_long))
+    ⊎ ((bytes : List ℕ) × IsFile files name bytes × (length bytes ≤ most) × IsBytesRefusal bytes text)
+
+-- a spend file is longer than it may be, or it isn't, and its bytes are refused so
 abbrev pub IsFileRefusal : (List ℕ → List ℕ → Type 0) → Option Files → List ℕ → List ℕ → Type 0
-IsFileRefusal IsBytesRefusal files name text =
-    (IsLonger files name max_input_len × (text ≡ input_too_long))
-    ⊎ ((bytes : List ℕ) × IsFile files name bytes × (length bytes ≤ max_input_len) × IsBytesRefusal bytes text)
+IsFileRefusal IsBytesRefusal files name text = IsRefusalUpTo max_input_len IsBytesRefusal files name text
 
 -- the bytes are no artifact
 abbrev pub IsNoArtifact : List ℕ → List ℕ → Type 0
@@ -87,7 +95,7 @@ IsNoSpend program bytes text =
 -- The artifact is refused; or it isn't, and the spend file is; or neither is, and no scripts are built.
 abbrev pub IsSpendRefusal : Option Files → List ℕ → List ℕ → List ℕ → Type 0
 IsSpendRefusal files artifact_name spend_name text =
-    IsFileRefusal IsNoArtifact files artifact_name text
+    IsRefusalUpTo max_artifact_len IsNoArtifact files artifact_name text
     ⊎ ((program : Artifact) × IsArtifact files artifact_name program × IsFileRefusal (IsNoSpend program) files spend_name text)
 
 -- ---- why nothing is shown
@@ -98,7 +106,14 @@ HasBytesRefusal IsRefusal (Refused status text) = (status ≡ 4) × IsRefusal te
 HasBytesRefusal IsRefusal Unread = ⊥
 HasBytesRefusal IsRefusal Memory = Unit {0}
 
--- a file is refused, or it can't be read
+-- an artifact is refused, or it can't be read
+abbrev pub HasArtifactCause : Option Files → List ℕ → ℕ → ℕ → Stop → Type 0
+HasArtifactCause files name before now (Refused status text) =
+    (status ≡ 4) × IsRefusalUpTo max_artifact_len IsNoArtifact files name text.items
+HasArtifactCause files name before now Unread = HasUnreadCause files name before now
+HasArtifactCause files name before now Memory = Unit {0}
+
+-- a spend file is refused, or it can't be read
 abbrev pub HasFileRefusal : (List ℕ → List ℕ → Type 0) → Option Files → List ℕ → ℕ → ℕ → Stop → Type 0
 HasFileRefusal IsBytesRefusal files name before now (Refused status text) =
     (status ≡ 4) × IsFileRefusal IsBytesRefusal files name text.items

@@ -8,7 +8,7 @@ ghost use Rattle.artifact_json.specs.Reading.{artifact_reading};
 ghost use Rattle.spend_json.specs.Given.{spend_parts};
 ghost use Rattle.spend_json.specs.Files.{spend_reading};
 ghost use Rattle.command_files.specs.Files.{IsSaid, IsFile};
-ghost use Rattle.spend_command.specs.Spent.{IsArtifact, IsSpent, HasSpendCause, HasFileRefusal, HasBytesRefusal, IsNoArtifact, IsNoSpendFile, IsNoSpend, IsUnbuilt, IsTold, IsReported};
+ghost use Rattle.spend_command.specs.Spent.{IsArtifact, IsSpent, HasSpendCause, HasArtifactCause, HasFileRefusal, HasBytesRefusal, IsNoArtifact, IsNoSpendFile, IsNoSpend, IsUnbuilt, IsTold, IsReported};
 
 pub mod fault_lines;
 pub mod reports;
@@ -24,7 +24,10 @@ use spend_json::{SpendFault, SpendFile};
 use spend_trace::debug;
 use std::alloc::Global;
 
-/// The most bytes of an artifact, and of a spend file.
+/// The most bytes of an artifact.
+pub const MAX_ARTIFACT_LEN: usize = 1_048_576;
+
+/// The most bytes of a spend file.
 pub const MAX_INPUT_LEN: usize = 4_194_304;
 
 /// What is told of a longer one.
@@ -36,8 +39,8 @@ const LONGEST_PLACED: usize = 2_147_483_647;
 /// The three scripts and the verdict of the spend of an artifact's program that a spend file asks for, with status 0 where the
 /// machine accepts it and 3 where it refuses; the files are named.
 ///
-/// `Refused` has status 4 and comes exactly where the artifact is longer than 4,194,304 bytes or has a fault, else the spend file
-/// is or has, or else no scripts can be built of what it says; its text is `input`, the fault's name, and the fault's field or
+/// `Refused` has status 4 and comes exactly where the artifact is longer than 1,048,576 bytes or has a fault, else the spend file
+/// is longer than 4,194,304 bytes or has one, or else no scripts can be built of what it says; its text is `input`, the fault's name, and the fault's field or
 /// numbers. `Unread` comes only where the store's count of faults rose, or the store tells its files and lacks one; the spend file
 /// is read only beside a readable artifact. `Memory` comes where memory ran out.
 #[tactic(auto, using(crate::proofs::Causes::artifact_stopped, crate::proofs::Causes::file_stopped, crate::proofs::Causes::shown))]
@@ -66,12 +69,12 @@ fn program_in<S: Store>(alloc: Global, name: &str, store: &mut S) -> Result<Prog
     ensures read { IfOk result (λ program. IsArtifact (S.files store.old) name.now program) }
     ensures few { IfOk result HasFewInputs }
     ensures stopped { IfErr result (λ stop.
-        HasFileRefusal IsNoArtifact (S.files store.old) name.now (S.faults store.old) (S.faults store.new) stop) }
+        HasArtifactCause (S.files store.old) name.now (S.faults store.old) (S.faults store.new) stop) }
     ensures said { IfErr result (λ stop. IsSaid stop) }
     ensures later { S.faults store.old ≤ S.faults store.new }
     ensures files { S.files store.new ≡ S.files store.old }
 {
-    let bytes = read_file(alloc, name, MAX_INPUT_LEN, 4, INPUT_TOO_LONG, store)?;
+    let bytes = read_file(alloc, name, MAX_ARTIFACT_LEN, 4, INPUT_TOO_LONG, store)?;
     let program = read_program(alloc, bytes.as_slice())?;
     Ok(program)
 }

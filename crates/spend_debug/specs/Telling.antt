@@ -116,11 +116,14 @@ failure_line place cause at =
 abbrev pub script_line : List ℕ → List ℕ → List ℕ
 script_line name script = name ++ codes " " ++ encode_lower script ++ codes "\n"
 
--- the three scripts, a line each, and then the line of a verdict
+-- the three scripts, a line each
+abbrev pub script_lines : List ℕ → List ℕ → List ℕ → List ℕ
+script_lines redeem unlocking locking =
+    script_line (codes "redeem") redeem ++ script_line (codes "unlocking") unlocking ++ script_line (codes "locking") locking
+
+-- ... and then the line of a verdict
 abbrev pub lines_with : List ℕ → List ℕ → List ℕ → List ℕ → List ℕ
-lines_with redeem unlocking locking verdict =
-    script_line (codes "redeem") redeem ++ script_line (codes "unlocking") unlocking
-    ++ script_line (codes "locking") locking ++ verdict
+lines_with redeem unlocking locking verdict = script_lines redeem unlocking locking ++ verdict
 
 -- ... with the line and the column of its place in the source
 abbrev pub report_lines : List ℕ → Told → List ℕ

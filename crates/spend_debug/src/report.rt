@@ -3,7 +3,7 @@
 ghost use Rattle.std.specs.Prelude.{◌≡◌, ◌≤◌, ◌++◌, IfOk, OnOk, codes, length};
 ghost use Rattle.std.specs.Fmt.{decimal};
 ghost use Rattle.spend_debug.specs.Telling;
-ghost use Rattle.spend_debug.specs.Telling.{report_lines, script_line, verdict_line, where_told, input_line};
+ghost use Rattle.spend_debug.specs.Telling.{report_lines, script_line, script_lines, verdict_line, where_told, input_line};
 
 use crate::spend_lines::LineFault;
 use bch_vm::{MachineOutcome, Which};
@@ -127,15 +127,19 @@ pub fn report_text(alloc: Global, source: &[u8], report: &Report) -> Result<Vec<
 {
     let place = told_place(source, report.place);
     let mut text = Vec::new(alloc);
-    add_script(alloc, &mut text, "redeem", report.redeem.as_slice())?;
-    add_script(alloc, &mut text, "unlocking", report.unlocking.as_slice())?;
-    add_script(alloc, &mut text, "locking", &report.locking)?;
+    add_scripts(
+        alloc,
+        &mut text,
+        report.redeem.as_slice(),
+        report.unlocking.as_slice(),
+        &report.locking,
+    )?;
     add_verdict(alloc, &mut text, report.outcome, place)?;
     Ok(text)
 }
 
-/// The line and the column at which a place in a source is told, both from 1: those of its first byte.
-fn told_place(source: &[u8], place: Option<Span>) -> Option<(u32, u32)>
+/// The line and the column at which a place in a source is told, both from 1: those of its first byte. It takes no memory.
+pub fn told_place(source: &[u8], place: Option<Span>) -> Option<(u32, u32)>
     requires { length source.now ≤ 2147483647 }
     ensures { result ≡ Telling.told_place source.now place }
 {
@@ -194,6 +198,22 @@ fn add_two(alloc: Global, text: &mut Vec<u8>, front: &str, m: u32, n: u32) -> Re
     Ok(())
 }
 
+/// Adds the lines `redeem HEX`, `unlocking HEX` and `locking HEX` of three scripts. The only error is want of memory.
+pub fn add_scripts(
+    alloc: Global,
+    text: &mut Vec<u8>,
+    redeem: &[u8],
+    unlocking: &[u8],
+    locking: &[u8],
+) -> Result<(), AllocError>
+    ensures { OnOk result (text.new.items ≡ text.old.items ++ script_lines redeem.now unlocking.now locking.now) }
+{
+    add_script(alloc, text, "redeem", redeem)?;
+    add_script(alloc, text, "unlocking", unlocking)?;
+    add_script(alloc, text, "locking", locking)?;
+    Ok(())
+}
+
 /// Adds the line of a script.
 fn add_script(
     alloc: Global,
@@ -210,8 +230,8 @@ fn add_script(
     Ok(())
 }
 
-/// Adds the line of the verdict.
-fn add_verdict(
+/// Adds the line of the verdict, with LINE:COL where there is a place. The only error is want of memory.
+pub fn add_verdict(
     alloc: Global,
     text: &mut Vec<u8>,
     outcome: MachineOutcome,
@@ -282,7 +302,8 @@ fn placed_name(cause: MachineCause) -> &'static str
     }
 }
 
-fn script_name(script: Which) -> &'static str
+/// The name of a script, as it is told. It takes no memory.
+pub fn script_name(script: Which) -> &'static str
     ensures { result.now ≡ Telling.script_name script }
 {
     match script {
@@ -292,8 +313,8 @@ fn script_name(script: Which) -> &'static str
     }
 }
 
-/// The name of a cause that a run of the source has too.
-fn cause_name(cause: Cause) -> &'static str
+/// The name of a cause that a run of the source has too. It takes no memory.
+pub fn cause_name(cause: Cause) -> &'static str
     ensures { result.now ≡ Telling.cause_name cause }
 {
     match cause {

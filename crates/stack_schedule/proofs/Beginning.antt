@@ -46,7 +46,8 @@ use Rattle.stack_steps.specs.Steps.{KeysKnown, counted, counted_of}
 use Rattle.stack_steps.proofs.Instrs.{place}
 use Rattle.stack_steps.proofs.Adding.{top_none}
 use Rattle.stack_schedule.specs.Costs.{CountsEnd}
-use Rattle.stack_schedule.specs.Spans.{spans_in, have_places, KeepsSpans, KeepsPlaces}
+use Rattle.slot_code.specs.Spans.{code_spans}
+use Rattle.stack_schedule.specs.Spans.{have_places, KeepsSpans, KeepsPlaces}
 use Rattle.stack_schedule.specs.Endings.{PathEnds, Ending, SeenAt, MayEnd, Finishes, path_of}
 use Rattle.stack_schedule.specs.Schedule.{IsStart, Starts, LeavesOne, FailsAt, EndsFalseAt, EndsAs, Decides, EndsItsPath, EndsOnItsOwn, HasForm, AreNamed, IsWithin, seen_at, statements}
 use Rattle.stack_schedule.proofs.Forks.{path_closed}
@@ -376,6 +377,6 @@ module _ (f : SlotFunction) (layout : List Slot) (old new : Low) (well : IsWellF
 -- ---- places
 
 pub schedule_spans : (f : SlotFunction) (layout : List Slot) (old new : Low) → Starts f layout old → (body : List SlotInstr) → body ≡ f.body
-    → KeepsPlaces (f.span ∷ spans_in body) old.emitter new.emitter → KeepsSpans f new.emitter.code.items
+    → KeepsPlaces (f.span ∷ code_spans body) old.emitter new.emitter → KeepsSpans f new.emitter.code.items
 schedule_spans f layout old new x body b keeps holds all =
-    keeps holds (subst (λ is. list_all holds (f.span ∷ spans_in is) ≡ true) (sym b) all) (ap (have_places holds) x.code_is)
+    keeps holds (subst (λ is. list_all holds (f.span ∷ code_spans is) ≡ true) (sym b) all) (ap (have_places holds) x.code_is)

@@ -149,7 +149,7 @@ module _ (instr : SlotInstr) (ys ns rest : List SlotInstr) (after held : List Sl
       then_test (length marked.emitter.place.operands == 1) forks (with_operands [] (place_of marked))
       (well_from instr.checking false old marked m (then_shape (takes_all 1) forks) well)
 
-  operand : (k : Operand) × (marked.emitter.place.operands ≡ k ∷ [])
+  pub operand : (k : Operand) × (marked.emitter.place.operands ≡ k ∷ [])
   operand = one_known marked.emitter.place.operands tests.0
 
   tight : IsTight (kept (either reads next) (λ s. has s held || never s)) old.scope old.emitter.place.slots

@@ -14,3 +14,4 @@ pub mod Smaller
 pub mod Keys
 pub mod Paid
 pub mod Spans
+pub mod Building

@@ -10,9 +10,6 @@ use Rattle.script_codec.specs.declared.spans.Spanned.{Spanned}
 use Rattle.slot_code.specs.declared.slots.SlotInstr.{SlotInstr}
 use Rattle.slot_code.specs.declared.slots.SlotKind.{SlotKind}
 use Rattle.slot_code.specs.declared.slots.SlotKind.TheVariants as kinds
-use Rattle.slot_code.specs.declared.slots.SlotKind.TheOpen.{SlotKind-F, SlotInstr-F}
-use Rattle.slot_code.specs.declared.slots.SlotKind.TheViews.{roll-SlotKind}
-use Rattle.slot_code.specs.declared.slots.SlotKind.TheFolds.{fold-roll-SlotInstr, fold-roll-SlotKind}
 use Rattle.slot_code.specs.declared.slots.SlotFunction.{SlotFunction}
 use Rattle.row_runs.specs.Rows.{is_control}
 use Rattle.stack_emitter.specs.declared.emit.Emitter.{Emitter}
@@ -21,27 +18,10 @@ use Rattle.stack_emitter.specs.Correct.{Deed, Adds, Ends, nothing}
 use Rattle.stack_emitter.proofs.Choose.{opens, flips, closes}
 use Rattle.stack_steps.specs.Steps.{Tells, are_told, places_of, doing_of}
 use Rattle.stack_steps.proofs.Adding.{plain_told}
-use Rattle.stack_schedule.specs.Spans.{kind_spans, instr_spans, spans_of, spans_at, spans_in, slot_spans, have_places, KeepsSpans, KeepsPlaces}
+use Rattle.slot_code.specs.Spans.{spans_of, spans_at, code_spans, slot_spans}
+use Rattle.slot_code.proofs.Steps.{whole_spans, if_spans}
+use Rattle.stack_schedule.specs.Spans.{have_places, KeepsSpans, KeepsPlaces}
 use Rattle.stack_schedule.proofs.Blocks.{next_item}
-
--- ---- the places of an instruction
-
-abbrev Whole : Type 0
-Whole = SlotInstr-F SlotKind SlotInstr
-
-abbrev Layer : Type 0
-Layer = SlotKind-F SlotKind SlotInstr
-
-whole_spans : (i : SlotInstr) → spans_of i ≡ i.doing ∷ i.checking ∷ spans_at i.kind
-unfolding spans_of spans_at
-whole_spans i =
-    let layer : Whole = record { kind = i.kind; doing = i.doing; checking = i.checking } in
-    fold-roll-SlotInstr (List Span) (List Span) kind_spans instr_spans layer
-
-if_spans : (a b : List SlotInstr) → spans_at (kinds.If a b) ≡ spans_in a ++ spans_in b
-unfolding spans_of spans_at roll-SlotKind denote.Hole.Carrier.roll
-if_spans a b =
-    let layer : Layer = SlotKind-F.If a b in fold-roll-SlotKind (List Span) (List Span) kind_spans instr_spans layer
 
 -- ---- tests of lists
 
@@ -69,11 +49,11 @@ own_places holds instr h =
 
 -- and of those in its blocks
 block_places : (holds : Span → Bool) (instr : SlotInstr) (ys ns : List SlotInstr) → instr.kind ≡ kinds.If ys ns → Holds holds (spans_of instr)
-    → Holds holds (spans_in ys) × Holds holds (spans_in ns)
+    → Holds holds (code_spans ys) × Holds holds (code_spans ns)
 block_places holds instr ys ns e h =
     let p = and_parts (holds instr.doing) (list_all holds (instr.checking ∷ spans_at instr.kind)) (ap (list_all holds) (sym (whole_spans instr)) ∙ h) in
     let q = (and_parts (holds instr.checking) (list_all holds (spans_at instr.kind)) p.1).1 in
-    holds_parts holds (spans_in ys) (spans_in ns) (ap (list_all holds) (sym (ap spans_at e ∙ if_spans ys ns)) ∙ q)
+    holds_parts holds (code_spans ys) (code_spans ns) (ap (list_all holds) (sym (ap spans_at e ∙ if_spans ys ns)) ∙ q)
 
 -- ---- added rows
 
@@ -134,8 +114,8 @@ check_places instr old new marked deed same y holds all h =
 -- ---- choices
 
 module _ (instr : SlotInstr) (ys ns : List SlotInstr) (e : instr.kind ≡ kinds.If ys ns) (old marked : Emitter) (same : marked ≡ old) (a b c d : Emitter) (in_a : a.code.items ≡ marked.code.items ++ opens instr.doing instr.checking ∷ []) where
-  pub choice_places : (new j k : Emitter) → KeepsPlaces (spans_in ys) a b → Adds instr.checking instr.checking b j nothing
-      → c.code.items ≡ j.code.items ++ flips instr.doing instr.checking ∷ [] → KeepsPlaces (spans_in ns) c d
+  pub choice_places : (new j k : Emitter) → KeepsPlaces (code_spans ys) a b → Adds instr.checking instr.checking b j nothing
+      → c.code.items ≡ j.code.items ++ flips instr.doing instr.checking ∷ [] → KeepsPlaces (code_spans ns) c d
       → Adds instr.checking instr.checking d k nothing → new.code.items ≡ k.code.items ++ closes instr.doing instr.checking ∷ []
       → KeepsPlaces (spans_of instr) old new
   choice_places new j k in_yes first in_c in_no second code holds all h =
@@ -148,17 +128,17 @@ module _ (instr : SlotInstr) (ys ns : List SlotInstr) (e : instr.kind ≡ kinds.
       let at_k = adds_places holds instr.checking d k second own.1 (in_no holds blocks.1 at_c) in
       row_places holds k.code.items new.code.items (closes instr.doing instr.checking) code own.0 own.1 at_k
 
-  pub fork_places : (new : Emitter) → KeepsPlaces (instr.checking ∷ spans_in ys) a b → c.code.items ≡ b.code.items ++ flips instr.doing instr.checking ∷ []
-      → KeepsPlaces (instr.checking ∷ spans_in ns) c d → new.code.items ≡ d.code.items ++ closes instr.doing instr.checking ∷ []
+  pub fork_places : (new : Emitter) → KeepsPlaces (instr.checking ∷ code_spans ys) a b → c.code.items ≡ b.code.items ++ flips instr.doing instr.checking ∷ []
+      → KeepsPlaces (instr.checking ∷ code_spans ns) c d → new.code.items ≡ d.code.items ++ closes instr.doing instr.checking ∷ []
       → KeepsPlaces (spans_of instr) old new
   fork_places new in_yes in_c in_no code holds all h =
       let own = own_places holds instr all in
       let blocks = block_places holds instr ys ns e all in
       let at_a = row_places holds marked.code.items a.code.items (opens instr.doing instr.checking) in_a own.0 own.1
       (subst (λ (x : Emitter). At holds x.code.items) (sym same) h) in
-      let at_b = in_yes holds (and_from (holds instr.checking) (list_all holds (spans_in ys)) own.1 blocks.0) at_a in
+      let at_b = in_yes holds (and_from (holds instr.checking) (list_all holds (code_spans ys)) own.1 blocks.0) at_a in
       let at_c = row_places holds b.code.items c.code.items (flips instr.doing instr.checking) in_c own.0 own.1 at_b in
-      let at_d = in_no holds (and_from (holds instr.checking) (list_all holds (spans_in ns)) own.1 blocks.1) at_c in
+      let at_d = in_no holds (and_from (holds instr.checking) (list_all holds (code_spans ns)) own.1 blocks.1) at_c in
       row_places holds d.code.items new.code.items (closes instr.doing instr.checking) code own.0 own.1 at_d
 
 -- ---- loops over blocks
@@ -166,20 +146,20 @@ module _ (instr : SlotInstr) (ys ns : List SlotInstr) (e : instr.kind ≡ kinds.
 -- so far it holds, and of the places of what is left too
 pub record Held (now : Emitter) (instrs : List SlotInstr) (i : ℕ) (holds : Span → Bool) : Type 0 where
   pub now_at : At holds now.code.items
-  pub left : Holds holds (spans_in (drop i instrs))
+  pub left : Holds holds (code_spans (drop i instrs))
 
 abbrev pub LeftPlaces : Emitter → Emitter → List SlotInstr → ℕ → Type 0
 LeftPlaces old now instrs i =
-    (holds : Span → Bool) → list_all holds (spans_in instrs) ≡ true → have_places holds old.code.items ≡ true → Held now instrs i holds
+    (holds : Span → Bool) → list_all holds (code_spans instrs) ≡ true → have_places holds old.code.items ≡ true → Held now instrs i holds
 
 pub left_places_none : (old : Emitter) (instrs : List SlotInstr) → LeftPlaces old old instrs 0
 left_places_none old instrs holds all h = record { now_at = h; left = all }
 
 module _ (old now : Emitter) (instrs : List SlotInstr) (i : ℕ) (x d : SlotInstr) (l : LeftPlaces old now instrs i) (lt : i < length instrs) (at : x ≡ get_or instrs i d) where
-  here : (holds : Span → Bool) → Holds holds (spans_in (drop i instrs)) → Holds holds (spans_of x) × Holds holds (spans_in (drop (i + 1) instrs))
+  here : (holds : Span → Bool) → Holds holds (code_spans (drop i instrs)) → Holds holds (spans_of x) × Holds holds (code_spans (drop (i + 1) instrs))
   here holds left =
-      holds_parts holds (spans_of x) (spans_in (drop (i + 1) instrs))
-      (ap (λ xs. list_all holds (spans_in xs)) (sym (next_item instrs x d i lt at)) ∙ left)
+      holds_parts holds (spans_of x) (code_spans (drop (i + 1) instrs))
+      (ap (λ xs. list_all holds (code_spans xs)) (sym (next_item instrs x d i lt at)) ∙ left)
 
   pub left_places_more : (next : Emitter) → KeepsPlaces (spans_of x) now next → LeftPlaces old next instrs (i + 1)
   left_places_more next step holds all h =
@@ -187,18 +167,18 @@ module _ (old now : Emitter) (instrs : List SlotInstr) (i : ℕ) (x d : SlotInst
       let p = here holds g.left in
       record { now_at = step holds p.0 g.now_at; left = p.1 }
 
-  pub end_places_done : (around : Span) (final : Emitter) → KeepsPlaces (spans_of x) now final → KeepsPlaces (around ∷ spans_in instrs) old final
+  pub end_places_done : (around : Span) (final : Emitter) → KeepsPlaces (spans_of x) now final → KeepsPlaces (around ∷ code_spans instrs) old final
   end_places_done around final step holds all h =
-      let g = l holds (and_parts (holds around) (list_all holds (spans_in instrs)) all).1 h in
+      let g = l holds (and_parts (holds around) (list_all holds (code_spans instrs)) all).1 h in
       step holds (here holds g.left).0 g.now_at
 
-pub left_places_all : (old now : Emitter) (instrs : List SlotInstr) (i : ℕ) → LeftPlaces old now instrs i → KeepsPlaces (spans_in instrs) old now
+pub left_places_all : (old now : Emitter) (instrs : List SlotInstr) (i : ℕ) → LeftPlaces old now instrs i → KeepsPlaces (code_spans instrs) old now
 left_places_all old now instrs i l holds all h = (l holds all h).now_at
 
 pub end_places_missing : (old now final : Emitter) (instrs : List SlotInstr) (i : ℕ) (around : Span) (deed : Deed) → LeftPlaces old now instrs i
-    → Ends around now final deed → KeepsPlaces (around ∷ spans_in instrs) old final
+    → Ends around now final deed → KeepsPlaces (around ∷ code_spans instrs) old final
 end_places_missing old now final instrs i around deed l y holds all h =
-    let p = and_parts (holds around) (list_all holds (spans_in instrs)) all in
+    let p = and_parts (holds around) (list_all holds (code_spans instrs)) all in
     ends_places holds around now final deed y p.0 (l holds p.1 h).now_at
 
 -- ---- inside a source
@@ -227,6 +207,6 @@ rows_inside len (r ∷ rows) h =
     ((inside_by len r.doing q.0, inside_by len r.checking q.1), rows_inside len rows p.1)
 
 -- where all places of the slot code lie in a source, those of the rows do
-pub spans_inside : (f : SlotFunction) (rows : List Spanned) → KeepsSpans f rows → (len : ℕ) → AreInside len (slot_spans f)
+pub code_spansside : (f : SlotFunction) (rows : List Spanned) → KeepsSpans f rows → (len : ℕ) → AreInside len (slot_spans f)
     → AllByRecursion (λ (row : Spanned). IsInside len row.doing × IsInside len row.checking) rows
-spans_inside f rows keeps len all = rows_inside len rows (keeps (is_inside len) (all_inside len (slot_spans f) all))
+code_spansside f rows keeps len all = rows_inside len rows (keeps (is_inside len) (all_inside len (slot_spans f) all))

@@ -2,3 +2,4 @@ pub mod Costs
 pub mod Endings
 pub mod Spans
 pub mod Schedule
+pub mod Built

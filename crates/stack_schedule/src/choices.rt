@@ -10,10 +10,12 @@ ghost use Rattle.slot_code.specs.Weight.{weighs_of, all_weigh};
 ghost use Rattle.stack_emitter.specs.Places.{spot};
 ghost use Rattle.stack_emitter.specs.Codes.{bytes_of, ops_of};
 ghost use Rattle.stack_emitter.specs.Correct.{Adds, nothing};
-ghost use Rattle.stack_steps.specs.Lower.{Ready, Does};
+ghost use Rattle.stack_steps.specs.Lower.{IsNoChoice, Ready, Does};
 ghost use Rattle.stack_steps.specs.Steps.{KeysKnown};
 ghost use Rattle.stack_schedule.specs.Costs.{Counts};
-ghost use Rattle.stack_schedule.specs.Spans.{spans_of, spans_in, KeepsPlaces};
+ghost use Rattle.slot_code.specs.Spans.{spans_of, code_spans};
+ghost use Rattle.stack_schedule.specs.Spans.{KeepsPlaces};
+ghost use Rattle.stack_schedule.specs.Built.{Stepped, IsBuilt, One, Block};
 
 use cash_base::{Memory, Slot, Span};
 use script_codec::{Instr, Opcode};
@@ -147,6 +149,29 @@ fn join(
     Ok(target)
 }
 
+/// One instruction that is no choice. Where its statement begins with it there is a row.
+pub(crate) fn step(
+    low: &mut Low,
+    instr: &SlotInstr,
+    rest: &[SlotInstr],
+    after: &Items<Slot>,
+    held: &Items<Slot>,
+    body: &[SlotInstr],
+) -> Result<(), Memory>
+    requires no_choice { IsNoChoice instr.now }
+    requires ready { Ready (shapes_of instr.now).inner (either (reads_of instr.now) (later rest.now after.now)) (hold body.now held.now) low.old }
+    ensures { OnOk result (Stepped body.now instr.now rest.now after.now held.now low.old low.new) }
+{
+    let marks = low.marks.len();
+    let rows = low.emitter.code.len();
+    low.step(instr, rest, after, held, body)?;
+    // This never stops here: a first instruction finds no operands, so it reads a name or puts an element, and has a row.
+    if low.marks.len() > marks && low.emitter.code.len() == rows {
+        return Err(Memory);
+    }
+    Ok(())
+}
+
 #[cycle(lower)]
 fn lower_all(
     low: &mut Low,
@@ -158,7 +183,8 @@ fn lower_all(
     requires { Ready (all_shapes (map shapes_of instrs.now)) (later instrs.now after.now) (hold body.now held.now) low.old }
     ensures does { OnOk result (Does (λ world. run_of world instrs.now) (all_shapes (map shapes_of instrs.now)) (later instrs.now after.now) (later [] after.now) (hold body.now held.now) low.old low.new) }
     ensures counts { OnOk result (KeysKnown low.old.emitter → Counts (all_weigh (map weighs_of instrs.now)) low.old low.new) }
-    ensures places { OnOk result (KeepsPlaces (spans_in instrs.now) low.old.emitter low.new.emitter) }
+    ensures places { OnOk result (KeepsPlaces (code_spans instrs.now) low.old.emitter low.new.emitter) }
+    ensures built { OnOk result (IsBuilt body.now (Block instrs.now) after.now held.now low.old low.new) }
 {
     for (i, instr) in instrs.iter().enumerate() {
         lower_instr(low, instr, &instrs[i + 1..], after, held, body)?;
@@ -179,6 +205,7 @@ pub(crate) fn lower_instr(
     ensures does { OnOk result (Does (λ world. act_of world instr.now) (shapes_of instr.now).inner (either (reads_of instr.now) (later rest.now after.now)) (later rest.now after.now) (hold body.now held.now) low.old low.new) }
     ensures counts { OnOk result (KeysKnown low.old.emitter → Counts (weighs_of instr.now).inner low.old low.new) }
     ensures places { OnOk result (KeepsPlaces (spans_of instr.now) low.old.emitter low.new.emitter) }
+    ensures built { OnOk result (IsBuilt body.now (One instr.now rest.now) after.now held.now low.old low.new) }
 {
     let doing = instr.doing;
     let checking = instr.checking;
@@ -214,6 +241,6 @@ pub(crate) fn lower_instr(
         low.outer = outer;
         return Ok(());
     }
-    low.step(instr, rest, after, held, body)?;
+    step(low, instr, rest, after, held, body)?;
     Ok(())
 }

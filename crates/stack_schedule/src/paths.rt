@@ -8,10 +8,12 @@ ghost use Rattle.slot_liveness.specs.Live.{reads_of, later, hold, either};
 ghost use Rattle.stack_steps.specs.Lower.{IsNoChoice};
 ghost use Rattle.stack_steps.specs.Steps.{KeysKnown};
 ghost use Rattle.stack_schedule.specs.Costs.{CountsEnd};
-ghost use Rattle.stack_schedule.specs.Spans.{spans_of, spans_in, KeepsPlaces};
+ghost use Rattle.slot_code.specs.Spans.{spans_of, code_spans};
+ghost use Rattle.stack_schedule.specs.Spans.{KeepsPlaces};
+ghost use Rattle.stack_schedule.specs.Built.{IsBuilt, Last, Path};
 ghost use Rattle.stack_schedule.specs.Endings.{MayEnd, Finishes, PathEnds, path_of, last_meant};
 
-use crate::choices::{ELSE, ENDIF, IF, arms_of, enter, lower_instr};
+use crate::choices::{ELSE, ENDIF, IF, arms_of, enter, lower_instr, step};
 use cash_base::{Memory, Slot, Span};
 use script_codec::Instr;
 use slot_code::{SlotInstr, SlotKind};
@@ -45,7 +47,8 @@ pub(crate) fn lower_tail(
     requires { MayEnd (path_of instrs.now) (later instrs.now after.now) (hold body.now held.now) low.old }
     ensures finishes { OnOk result (Finishes (λ world. run_of world instrs.now) (λ world. PathEnds world around instrs.now) (path_of instrs.now) (later instrs.now after.now) low.old low.new) }
     ensures counts { OnOk result (KeysKnown low.old.emitter → CountsEnd (path_weigh (map weighs_of instrs.now)) low.old low.new) }
-    ensures places { OnOk result (KeepsPlaces (around ∷ spans_in instrs.now) low.old.emitter low.new.emitter) }
+    ensures places { OnOk result (KeepsPlaces (around ∷ code_spans instrs.now) low.old.emitter low.new.emitter) }
+    ensures built { OnOk result (IsBuilt body.now (Path around instrs.now) after.now held.now low.old low.new) }
 {
     for (i, instr) in instrs.iter().enumerate() {
         let rest = &instrs[i + 1..];
@@ -74,6 +77,7 @@ fn lower_last(
     ensures finishes { OnOk result (Finishes (λ world. act_of world instr.now) (last_meant instr.now) (shapes_of instr.now).last (either (reads_of instr.now) (later rest.now after.now)) low.old low.new) }
     ensures counts { OnOk result (KeysKnown low.old.emitter → CountsEnd (weighs_of instr.now).last low.old low.new) }
     ensures places { OnOk result (KeepsPlaces (spans_of instr.now) low.old.emitter low.new.emitter) }
+    ensures built { OnOk result (IsBuilt body.now (Last instr.now rest.now) after.now held.now low.old low.new) }
 {
     let doing = instr.doing;
     let checking = instr.checking;
@@ -108,6 +112,7 @@ fn last_of_path(
     ensures finishes { OnOk result (Finishes (λ world. act_of world instr.now) (last_meant instr.now) (shapes_of instr.now).last (either (reads_of instr.now) (later rest.now after.now)) low.old low.new) }
     ensures counts { OnOk result (KeysKnown low.old.emitter → CountsEnd (weighs_of instr.now).last low.old low.new) }
     ensures places { OnOk result (KeepsPlaces (spans_of instr.now) low.old.emitter low.new.emitter) }
+    ensures built { OnOk result (IsBuilt body.now (Last instr.now rest.now) after.now held.now low.old low.new) }
 {
     let checking = instr.checking;
     if let SlotKind::Require = &instr.kind {
@@ -115,7 +120,7 @@ fn last_of_path(
         low.emitter.finish(checking)?;
         return Ok(());
     }
-    low.step(instr, rest, after, held, body)?;
+    step(low, instr, rest, after, held, body)?;
     low.emitter.finish_true(checking)?;
     Ok(())
 }

@@ -5,6 +5,7 @@ ghost use Rattle.slot_code.specs.Shape;
 ghost use Rattle.slot_code.specs.Shape.{IsWellFormed};
 ghost use Rattle.stack_schedule.specs.Schedule.{IsStart, Starts, Decides, EndsItsPath, EndsOnItsOwn, HasForm, CountsKeys, AreNamed, IsWithin, statements};
 ghost use Rattle.stack_schedule.specs.Spans.{KeepsSpans};
+ghost use Rattle.stack_schedule.specs.Built.{IsScheduled};
 ghost use Rattle.stack_steps.specs.Lower.{statements_of};
 
 use crate::paths::lower_tail;
@@ -71,6 +72,7 @@ pub fn schedule(alloc: Global, function: &SlotFunction, start: &Layout) -> Resul
     ensures named { IfOk result (λ marked. AreNamed marked.code.items) }
     ensures spans { IfOk result (λ marked. KeepsSpans function.now marked.code.items) }
     ensures within { IfOk result (λ marked. IsWithin function.now marked.code.items) }
+    ensures scheduled { IfOk result (λ marked. IsScheduled function.now start.now marked.code.items marked.marks.items) }
     ensures statements { IfOk result (λ marked. statements_of marked.marks.items ≡ statements function.now) }
 {
     let mut low = beginning(alloc, function, start)?;

@@ -1,5 +1,6 @@
 use Rattle.std.proofs.Common.{◌≡◌, ◌++◌, map}
-use Rattle.cash_compile.specs.Rows.{instructions, places}
+use Rattle.row_runs.specs.Rows.{instructions}
+use Rattle.tidied_code.specs.Ends.{places}
 use Rattle.cash_compile.proofs.describe.split.Given as goal
 
 -- the rows so far and those that are left make the whole

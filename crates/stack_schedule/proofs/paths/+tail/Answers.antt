@@ -9,6 +9,7 @@ use Rattle.stack_schedule.proofs.Spans.{left_places_none, left_places_more, end_
 use Rattle.stack_schedule.proofs.Smaller.{first_smaller, second_smaller}
 use Rattle.stack_schedule.proofs.Taken.{path_yes, path_no, path_finishes, path_costs}
 use Rattle.stack_schedule.proofs.Ways.{left_end_none, end_item, left_end_more, end_last, left_end_done, missing_closed, left_end_missing}
+use Rattle.stack_schedule.proofs.Building.{left_path_none, left_path_more, left_path_done, left_path_missing, fork_built}
 use Rattle.stack_schedule.proofs.paths.+tail.Goals as goal
 
 pub lower_tail-loop-i-init : goal.lower_tail-loop-i-init
@@ -16,6 +17,7 @@ lower_tail-loop-i-init t c = record {
   finishes = left_end_none c.args.around c.args.low.now c.args.instrs.now c.args.after.now (hold c.args.body.now c.args.held.now) c.requires;
   counts = λ k. end_pays_none c.args.low.now c.args.instrs.now k;
   places = left_places_none c.args.low.now.emitter c.args.instrs.now;
+  built = left_path_none c.args.around c.args.body.now c.args.instrs.now c.args.after.now c.args.held.now c.args.low.now;
 }
 
 pub lower_tail-may_end-requires : goal.lower_tail-may_end-requires
@@ -27,6 +29,7 @@ lower_tail-returns-then-is_over t c = record {
   finishes = left_end_done c.args.around c.args.low.now c.loop-i.low c.args.instrs.now c.args.after.now (hold c.args.body.now c.args.held.now) c.loop-i.i c.index-instrs-i.result _ _ c.loop-i.invariant.finishes c.loop-i-test.true c.index-instrs-i.is (rest_is _ _ c.loop-i-test.true) (sym c.is_over.ensures ∙ c.if-is_over.true) (over_ends _ (sym c.is_over.ensures ∙ c.if-is_over.true)) c.lower_last.new.low c.in_ok-lower_last.ensures.finishes;
   counts = λ k. end_pays_done c.args.low.now c.loop-i.low c.args.instrs.now c.loop-i.i c.index-instrs-i.result _ _ (c.loop-i.invariant.counts k) c.loop-i-test.true c.index-instrs-i.is (rest_is _ _ c.loop-i-test.true) c.lower_last.new.low (sym c.is_over.ensures ∙ c.if-is_over.true) c.in_ok-lower_last.ensures.counts;
   places = end_places_done c.args.low.now.emitter c.loop-i.low.emitter c.args.instrs.now c.loop-i.i c.index-instrs-i.result _ c.loop-i.invariant.places c.loop-i-test.true c.index-instrs-i.is c.args.around c.lower_last.new.low.emitter c.in_ok-lower_last.ensures.places;
+  built = left_path_done c.args.body.now c.args.instrs.now c.args.after.now c.args.held.now c.args.low.now c.loop-i.low c.loop-i.i c.index-instrs-i.result _ _ c.loop-i-test.true c.index-instrs-i.is (rest_is _ _ c.loop-i-test.true) c.args.around c.lower_last.new.low c.loop-i.invariant.built (sym c.is_over.ensures ∙ c.if-is_over.true) c.in_ok-lower_last.ensures.built;
 }
 
 pub lower_tail-lower_instr-requires : goal.lower_tail-lower_instr-requires
@@ -38,6 +41,7 @@ lower_tail-loop-i-preserved t c = record {
   finishes = left_end_more c.args.around c.args.low.now c.loop-i.low c.args.instrs.now c.args.after.now (hold c.args.body.now c.args.held.now) c.loop-i.i c.index-instrs-i.result _ _ c.loop-i.invariant.finishes c.loop-i-test.true c.index-instrs-i.is (rest_is _ _ c.loop-i-test.true) (sym c.is_over.ensures ∙ c.if-is_over.false) (not_over _ (sym c.is_over.ensures ∙ c.if-is_over.false)) c.lower_instr.new.low c.in_ok-lower_instr.ensures.does;
   counts = λ k. end_pays_more c.args.low.now c.loop-i.low c.args.instrs.now c.loop-i.i c.index-instrs-i.result _ _ (c.loop-i.invariant.counts k) c.loop-i-test.true c.index-instrs-i.is (rest_is _ _ c.loop-i-test.true) c.lower_instr.new.low (sym c.is_over.ensures ∙ c.if-is_over.false) c.in_ok-lower_instr.ensures.counts;
   places = left_places_more c.args.low.now.emitter c.loop-i.low.emitter c.args.instrs.now c.loop-i.i c.index-instrs-i.result _ c.loop-i.invariant.places c.loop-i-test.true c.index-instrs-i.is c.lower_instr.new.low.emitter c.in_ok-lower_instr.ensures.places;
+  built = left_path_more c.args.body.now c.args.instrs.now c.args.after.now c.args.held.now c.args.low.now c.loop-i.low c.loop-i.i c.index-instrs-i.result _ _ c.loop-i-test.true c.index-instrs-i.is (rest_is _ _ c.loop-i-test.true) c.args.around c.lower_instr.new.low c.loop-i.invariant.built (sym c.is_over.ensures ∙ c.if-is_over.false) c.in_ok-lower_instr.ensures.built;
 }
 
 pub lower_tail-finish_true-requires : goal.lower_tail-finish_true-requires
@@ -49,6 +53,7 @@ lower_tail-returns t c = record {
   finishes = left_end_missing c.args.around c.args.low.now c.loop-i.low c.args.instrs.now c.args.after.now (hold c.args.body.now c.args.held.now) c.loop-i.i c.loop-i.invariant.finishes c.loop-i-test.false _ c.in_ok-finish_true.ensures.ends refl;
   counts = λ k. end_pays_missing c.args.low.now c.loop-i.low _ c.args.instrs.now c.loop-i.i c.args.around _ (c.loop-i.invariant.counts k) c.loop-i-test.false c.in_ok-finish_true.ensures.ends c.in_ok-finish_true.ensures.costs;
   places = end_places_missing c.args.low.now.emitter c.loop-i.low.emitter c.finish_true.new.self c.args.instrs.now c.loop-i.i c.args.around _ c.loop-i.invariant.places c.in_ok-finish_true.ensures.ends;
+  built = left_path_missing c.args.body.now c.args.instrs.now c.args.after.now c.args.held.now c.args.low.now c.loop-i.low c.loop-i.i c.loop-i-test.false c.args.around _ c.loop-i.invariant.built c.in_ok-finish_true.ensures.ends refl;
 }
 
 pub lower_last-lower_tail-requires : goal.lower_last-lower_tail-requires
@@ -72,4 +77,12 @@ lower_last-returns-in-If t c = record {
       (closed_counted c.lower_tail-in-If.new.low.emitter c.put.new.self c.args.instr.now.doing c.args.instr.now.checking c.in_ok-put.ensures.code in_no.keys);
   places = fork_places c.args.instr.now c.as_slice-yes.result.now c.as_slice-no.result.now (c.in-If.is ∙ ap (λ l. If l c.in-If.no) (sym c.as_slice-yes.ensures) ∙ ap (λ l. If c.as_slice-yes.result.now l) (sym c.as_slice-no.ensures)) c.args.low.now.emitter c.mark.new.self.emitter c.mark.ensures.emitter c.enter.new.low.emitter c.lower_tail.new.low.emitter c.enter-in-If.new.low.emitter c.lower_tail-in-If.new.low.emitter c.in_ok-enter.ensures.code
       c.put.new.self c.in_ok-lower_tail.ensures.places c.in_ok-enter-2.ensures.code c.in_ok-lower_tail-2.ensures.places c.in_ok-put.ensures.code;
+  built = fork_built c.args.body.now c.args.instr.now c.as_slice-yes.result.now c.as_slice-no.result.now c.args.rest.now c.args.after.now c.args.held.now c.args.low.now c.mark.new.self (record { scope = c.mark.ensures.scope; outer = c.mark.ensures.outer; emitter = c.mark.ensures.emitter; marks = c.in_ok-mark.ensures.marks })
+      (c.in-If.is ∙ ap (λ l. If l c.in-If.no) (sym c.as_slice-yes.ensures) ∙ ap (λ l. If c.as_slice-yes.result.now l) (sym c.as_slice-no.ensures))
+      _ _ _ _ _ (record { live_is = c.in_ok-arms.ensures.live; yes_is = c.in_ok-arms.ensures.held_yes; no_is = c.in_ok-arms.ensures.held_no; layout_is = c.in_ok-arms.ensures.before; scope_is = c.in_ok-arms.ensures.scope })
+      c.requires _ c.new-none.ensures c.enter.new.low c.lower_tail.new.low c.enter-in-If.new.low c.lower_tail-in-If.new.low _
+      (record { code = c.in_ok-enter.ensures.code; place = c.in_ok-enter.ensures.place; scope_is = c.in_ok-enter.ensures.scope; outer_is = c.in_ok-enter.ensures.outer; marks = c.enter.ensures.marks })
+      c.in_ok-lower_tail.ensures.built c.in_ok-lower_tail.ensures.finishes.seen
+      (record { code = c.in_ok-enter-2.ensures.code; place = c.in_ok-enter-2.ensures.place; scope_is = c.in_ok-enter-2.ensures.scope; outer_is = c.in_ok-enter-2.ensures.outer; marks = c.enter-in-If.ensures.marks })
+      c.in_ok-lower_tail-2.ensures.built c.in_ok-put.ensures.code refl;
 }

@@ -6,6 +6,8 @@ use Rattle.stack_steps.specs.Lower.{statements_of}
 use Rattle.stack_schedule.specs.Schedule.{Decides, EndsItsPath, EndsOnItsOwn, HasForm, CountsKeys, AreNamed, IsWithin}
 use Rattle.stack_schedule.specs.Spans.{KeepsSpans}
 use Rattle.stack_schedule.proofs.Beginning.{starts_as, schedule_decides, schedule_ends, schedule_own, schedule_form, schedule_statements, schedule_within, schedule_spans, form_named, starts_known}
+use Rattle.stack_schedule.specs.Built.{IsScheduled}
+use Rattle.stack_schedule.proofs.Building.{scheduled_by}
 use Rattle.stack_schedule.proofs.whole.schedule.Goals as goal
 
 pub lower_tail-requires : goal.lower_tail-requires
@@ -49,3 +51,9 @@ pub returns-clause-spans : goal.returns-clause-spans
 returns-clause-spans c =
     subst (λ (code : Vec Spanned). KeepsSpans c.args.function.now code.items) (sym c.marked_of-marked.ensures.code)
     (schedule_spans c.args.function.now c.args.start.now c.in_ok-low.low c.lower_tail.new.low c.in_ok-low.ensures c.as_slice-body.result.now c.as_slice-body.ensures c.in_ok-lower_tail.ensures.places)
+
+pub returns-clause-scheduled : goal.returns-clause-scheduled
+returns-clause-scheduled c =
+    subst (λ (code : Vec Spanned). IsScheduled c.args.function.now c.args.start.now code.items c.marked_of-marked.result.marks.items) (sym c.marked_of-marked.ensures.code)
+    (subst (λ (marks : Vec Mark). IsScheduled c.args.function.now c.args.start.now c.lower_tail.new.low.emitter.code.items marks.items) (sym c.marked_of-marked.ensures.marks)
+    (scheduled_by c.args.function.now c.args.start.now c.in_ok-low.low c.lower_tail.new.low c.in_ok-low.ensures c.as_slice-body.result.now _ c.as_slice-body.ensures c.new-none.ensures c.in_ok-lower_tail.ensures.built))

@@ -1,0 +1,5 @@
+pub mod Calls
+pub mod Causes
+pub mod Decided
+pub mod Ready
+pub mod Stored

@@ -1,0 +1,4 @@
+pub mod Compiled
+pub mod Judged
+pub mod Meaning
+pub mod Sources

@@ -1,0 +1,3 @@
+pub mod RefusalText
+pub mod RunText
+pub mod TraceLines
